@@ -1,0 +1,91 @@
+-- The lead's count of leading one bits picks the one rule of the ABNF that can take its sequence.
+use mathlib.Core.Path.{_≡_, refl, sym, ap, _∙_}
+use mathlib.Core.Bool.{Bool, true, false, cond, not, _&&_, _||_}
+use mathlib.Core.List.{List, [], _∷_, _++_, append-nil}
+use mathlib.Core.Logic.{⊎-elim}
+use Prim.Native.Nat.{ℕ, zero, suc, _-_, _<_, _≤_}
+use native.Mathlib.Nat.{eq-or-lt-of-le}
+use native.Mathlib.Omega.{arith}
+use borrow.Author.Tests.{not-true, eq-eqb}
+use lib.Count.{leadingZeros}
+use lib.Dec.{eqb}
+use Rattle.utf8.specs.Rfc3629.{Range, UTF8-1, UTF8-2, UTF8-3, UTF8-4, UTF8-char, within, begins, taken, announced}
+use Rattle.utf8.proofs.Taken.{both}
+
+-- a rule of every number below n, by one computed test
+abbrev pub below : (ℕ → Bool) → ℕ → Bool
+below f zero = true
+below f (suc n) = f n && below f n
+
+pub each : (f : ℕ → Bool) (n : ℕ) → below f n ≡ true → (k : ℕ) → k < n → f k ≡ true
+each f zero e k h = absurd (omega arith)
+each f (suc n) e k h =
+    let b = both (f n) (below f n) e in
+    ⊎-elim (λ q. rw q (b .0)) (λ lt. each f n (b .1) k lt) (eq-or-lt-of-le {n = k} {m = n} (omega arith))
+
+-- no row of the rule can start with the octet
+abbrev misses : List (List Range) → ℕ → Bool
+misses [] b = true
+misses ([] ∷ rows) b = false
+misses ((r ∷ row) ∷ rows) b = not (within r b) && misses rows b
+
+module _ (b : ℕ) (s : List ℕ) where
+  skip : (xs ys : List (List Range)) → misses xs b ≡ true → taken (xs ++ ys) (b ∷ s) ≡ taken ys (b ∷ s)
+  unfolding taken begins
+  skip [] ys e = refl
+  skip ([] ∷ xs) ys e = let z : false ≡ true = e in cc
+  skip ((r ∷ row) ∷ xs) ys e = let m = both (not (within r b)) (misses xs b) e in rw (not-true (within r b) (m .0)) (skip xs ys (m .1))
+
+  stop : (xs ys : List (List Range)) → misses ys b ≡ true → taken (xs ++ ys) (b ∷ s) ≡ taken xs (b ∷ s)
+  unfolding taken
+  stop [] ys e = rw (← append-nil ys) (skip ys [] e)
+  stop (x ∷ xs) ys e = rw (stop xs ys e)
+
+  only : (xs rule ys : List (List Range)) → misses xs b ≡ true → misses ys b ≡ true → taken (xs ++ (rule ++ ys)) (b ∷ s) ≡ taken rule (b ∷ s)
+  only xs rule ys e f = skip xs (rule ++ ys) e ∙ stop rule ys f
+
+-- the rules that stand before and after the announced one
+before : ℕ → List (List Range)
+before o = cond (eqb o 0) [] (cond (eqb o 2) UTF8-1 (cond (eqb o 3) (UTF8-1 ++ UTF8-2) (cond (eqb o 4) (UTF8-1 ++ (UTF8-2 ++ UTF8-3)) UTF8-char)))
+
+after : ℕ → List (List Range)
+after o = cond (eqb o 0) (UTF8-2 ++ (UTF8-3 ++ UTF8-4)) (cond (eqb o 2) (UTF8-3 ++ UTF8-4) (cond (eqb o 3) UTF8-4 []))
+
+parts : (o : ℕ) → before o ++ (announced o ++ after o) ≡ UTF8-char
+unfolding before after announced
+parts o = go (eqb o 0) (eqb o 2) (eqb o 3) (eqb o 4)
+  where
+    go : (p q r t : Bool)
+        → cond p [] (cond q UTF8-1 (cond r (UTF8-1 ++ UTF8-2) (cond t (UTF8-1 ++ (UTF8-2 ++ UTF8-3)) UTF8-char)))
+        ++ (cond p UTF8-1 (cond q UTF8-2 (cond r UTF8-3 (cond t UTF8-4 [])))
+        ++ cond p (UTF8-2 ++ (UTF8-3 ++ UTF8-4)) (cond q (UTF8-3 ++ UTF8-4) (cond r UTF8-4 [])))
+        ≡ UTF8-char
+    go true q r t = refl
+    go false true r t = refl
+    go false false true t = refl
+    go false false false true = refl
+    go false false false false = refl
+
+test : ℕ → Bool
+test b = let o = leadingZeros 8 (255 - b) in misses (before o) b && misses (after o) b
+
+pub leads : (b : ℕ) (s : List ℕ) → b < 256 → taken UTF8-char (b ∷ s) ≡ taken (announced (leadingZeros 8 (255 - b))) (b ∷ s)
+unfolding test before after leadingZeros
+leads b s h =
+    let o = leadingZeros 8 (255 - b) in
+    let t = both (misses (before o) b) (misses (after o) b) (each test 256 refl b h) in
+    ap (λ (rule : List (List Range)). taken rule (b ∷ s)) (sym (parts o)) ∙ only b s (before o) (announced o) (after o) (t .0) (t .1)
+
+-- a lead with no leading one bits is a sequence by itself
+single : ℕ → Bool
+single b = not (eqb (leadingZeros 8 (255 - b)) 0) || within (0x00, 0x7F) b
+
+singles : below single 256 ≡ true
+unfolding single leadingZeros
+singles = refl
+
+pub leads-one : (b : ℕ) (s : List ℕ) → b < 256 → leadingZeros 8 (255 - b) ≡ 0 → taken UTF8-char (b ∷ s) ≡ 1
+unfolding single begins taken
+leads-one b s h e =
+    let t : within (0x00, 0x7F) b ≡ true = rw (eq-eqb _ 0 e) at (each single 256 singles b h) in
+    rw t

@@ -1,0 +1,64 @@
+-- One scalar read.
+use mathlib.Core.Path.{_≡_, refl, sym, ap, _∙_}
+use mathlib.Core.Bool.{Bool, true, false, cond, _&&_, _||_, and-false}
+use mathlib.Core.List.{List, [], _∷_, _++_}
+use mathlib.Core.Logic.{⊎-elim}
+use Prim.Native.Nat.{ℕ, zero, suc, _+_, _-_, _≤_, _<_}
+use native.Mathlib.Nat.{eq-or-lt-of-le}
+use native.Mathlib.Numerals.{add-one}
+use native.Mathlib.Omega.{arith}
+use borrow.Author.Tests.{ne-eqb}
+use lib.Count.{leadingZeros}
+use lib.Dec.{eqb}
+use lib.ListN.{length, take, drop, getD, length-drop}
+use lib.Seq.{drop-cons, take-at}
+use Rattle.promise.specs.Paper.{Paper, done, refused}
+use Rattle.utf8.specs.Rfc3629.{Range, UTF8-char, taken, number, announced}
+use Rattle.utf8.specs.Calls.{stepped, stepBy}
+use Rattle.utf8.proofs.Lead.{leads, leads-one}
+use Rattle.utf8.proofs.Taken.{longRows, taken-short}
+
+-- Whether a rule takes the octets p, of which drop i s is made first, decides a step by that rule.
+module _ (rule : List (List Range)) (s p q : List ℕ) (i n : ℕ) (r : Bool) (d : drop i s ≡ p ++ q) (l : length p ≡ suc n) (t : taken rule (p ++ q) ≡ cond r (suc n) 0) where
+  pub found : (v : ℕ) → r ≡ true → v ≡ number p → done (v, i + suc n) ≡ stepBy rule s i
+  unfolding stepped
+  found v e f = rw (d, t, e, take-at p q (suc n) l, f)
+
+  pub lost : r ≡ false → refused 5 i ≡ stepBy rule s i
+  unfolding stepped
+  lost e = rw (d, t, e)
+
+-- Too few octets are left for it.
+pub cut-off : (n : ℕ) (rule : List (List Range)) (s : List ℕ) (i : ℕ) → longRows n rule ≡ true → length s - i < n → refused 5 i ≡ stepBy rule s i
+unfolding stepped
+cut-off n rule s i e h = rw (taken-short n rule (drop i s) e (simp length-drop h))
+
+-- the next octets of s from i on
+pub next-1 : (s : List ℕ) (i : ℕ) → i < length s → drop i s ≡ getD s i 0 ∷ drop (i + 1) s
+next-1 s i h = rw (add-one, drop-cons s i 0)
+
+pub next-2 : (s : List ℕ) (i : ℕ) → i + 1 < length s → drop i s ≡ getD s i 0 ∷ getD s (i + 1) 0 ∷ drop (i + 2) s
+next-2 s i h = let e : i + 2 ≡ i + 1 + 1 = omega arith in next-1 s i (omega arith) ∙ rw (e, next-1 s (i + 1) h)
+
+pub next-3 : (s : List ℕ) (i : ℕ) → i + 2 < length s → drop i s ≡ getD s i 0 ∷ getD s (i + 1) 0 ∷ getD s (i + 2) 0 ∷ drop (i + 3) s
+next-3 s i h = let e : i + 3 ≡ i + 2 + 1 = omega arith in next-2 s i (omega arith) ∙ rw (e, next-1 s (i + 2) h)
+
+pub next-4 : (s : List ℕ) (i : ℕ) → i + 3 < length s
+    → drop i s ≡ getD s i 0 ∷ getD s (i + 1) 0 ∷ getD s (i + 2) 0 ∷ getD s (i + 3) 0 ∷ drop (i + 4) s
+next-4 s i h = let e : i + 4 ≡ i + 3 + 1 = omega arith in next-3 s i (omega arith) ∙ rw (e, next-1 s (i + 3) h)
+
+-- A step by the rule that the lead announces is a step.
+pub announces : (s : List ℕ) (i o : ℕ) → i < length s → getD s i 0 < 256 → o ≡ leadingZeros 8 (255 - getD s i 0)
+    → stepBy (announced o) s i ≡ stepBy UTF8-char s i
+announces s i o h k e = rw (next-1 s i h, e, leads (getD s i 0) (drop (i + 1) s) k)
+
+-- A count of 1 or over 4 announces none.
+pub unannounced : (s : List ℕ) (i o : ℕ) → 0 < o → (o ≡ 2 → ⊥) → (o ≡ 3 → ⊥) → (o ≡ 4 → ⊥) → refused 5 i ≡ stepBy (announced o) s i
+unfolding announced taken stepped
+unannounced s i o h p q r = rw (ne-eqb o 0 (omega arith), ne-eqb o 2 p, ne-eqb o 3 q, ne-eqb o 4 r)
+
+pub ascii : (s : List ℕ) (i o v : ℕ) → i < length s → getD s i 0 < 256 → o ≡ leadingZeros 8 (255 - getD s i 0) → o ≡ 0 → v ≡ getD s i 0
+    → done (v, i + 1) ≡ stepBy UTF8-char s i
+unfolding number
+ascii s i o v h k e z f =
+    found UTF8-char s (getD s i 0 ∷ []) (drop (i + 1) s) i 0 true (next-1 s i h) refl (leads-one (getD s i 0) (drop (i + 1) s) k (sym e ∙ z)) v refl f

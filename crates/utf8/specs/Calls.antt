@@ -1,0 +1,64 @@
+-- What each call leaves: its answer, and every slice that was lent to it.
+use mathlib.Core.Bool.{cond}
+use mathlib.Core.List.{List, [], _++_}
+use mathlib.Core.Path.{_≡_}
+use Prim.Native.Nat.{ℕ, zero, suc, _+_, _≤_}
+use lib.Dec.{ltb}
+use lib.ListN.{length, take, drop}
+use Rattle.promise.specs.Paper.{Paper, done, refused}
+use Rattle.utf8.specs.Rfc3629.{Range, taken, number, scalar, octets}
+use Rattle.utf8.specs.Reading.{Reading, scalars, badAt, allScalar, writing}
+
+-- the answer, and the lent slice at exit
+pub record Left : Type 0 where
+  pub answer : Paper ℕ
+  pub out : List ℕ
+
+abbrev pub left : Paper ℕ → List ℕ → Left
+left a o = record { answer = a; out = o }
+
+-- the slice with xs at its front; "later places keep their contents"
+abbrev pub over : List ℕ → List ℕ → List ℕ
+over xs out = xs ++ drop (length xs) out
+
+-- xs goes to the slice, or 8 where it is longer
+unfoldable pub stored : List ℕ → List ℕ → Left
+stored xs out = cond (ltb (length out) (length xs)) (left (refused 8 0) out) (left (done (length xs)) (over xs out))
+
+-- read_scalar, by a rule of the ABNF: of n octets s at offset `at`
+unfoldable pub stepped : ℕ → List ℕ → ℕ → Paper (ℕ × ℕ)
+stepped zero s at = refused 5 at
+stepped (suc n) s at = done (number (take (suc n) s), at + suc n)
+
+abbrev pub stepBy : List (List Range) → List ℕ → ℕ → Paper (ℕ × ℕ)
+stepBy rule s at = stepped (taken rule (drop at s)) (drop at s) at
+
+-- count_scalars
+unfoldable pub counted : Reading → Paper ℕ
+counted (scalars cs) = done (length cs)
+counted (badAt k) = refused 5 k
+
+-- decode: 5, then 8
+unfoldable pub decoded : Reading → List ℕ → Left
+decoded (scalars cs) out = stored cs out
+decoded (badAt k) out = left (refused 5 k) out
+
+-- write_scalar
+unfoldable pub sequenceOf : ℕ → Paper (List ℕ)
+sequenceOf c = cond (scalar c) (done (octets c)) (refused 1 0)
+
+-- count_octets
+unfoldable pub octetCount : List ℕ → Paper ℕ
+octetCount cs = cond (allScalar cs) (done (length (writing cs))) (refused 1 0)
+
+-- encode: 1, then 8
+unfoldable pub encoded : List ℕ → List ℕ → Left
+encoded cs out = cond (allScalar cs) (stored (writing cs) out) (left (refused 1 0) out)
+
+-- what a worker below the calls is asked: well-formed octets whose scalars fit n places
+unfoldable pub scalarsOf : Reading → List ℕ
+scalarsOf (scalars cs) = cs
+scalarsOf (badAt k) = []
+
+abbrev pub fillable : Reading → ℕ → Type 0
+fillable r n = (r ≡ scalars (scalarsOf r)) × (length (scalarsOf r) ≤ n)

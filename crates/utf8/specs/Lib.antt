@@ -1,0 +1,4 @@
+pub mod Rfc3629
+pub mod Reading
+pub mod Answers
+pub mod Calls

@@ -1,0 +1,234 @@
+// Reading.
+use crate::ByteOffset;
+use crate::Decoded;
+use crate::ScalarCount;
+use crate::Step;
+ghost use mathlib.Core.Path.{_≡_};
+ghost use mathlib.Core.Bool.{cond};
+ghost use mathlib.Core.List.{List, [], _∷_, _++_};
+ghost use Prim.Native.Nat.{ℕ, _-_, _≤_, _<_};
+ghost use lib.Count.{leadingZeros};
+ghost use lib.ListN.{length, drop};
+ghost use Rattle.utf8.specs.Rfc3629.{UTF8-2, UTF8-3, UTF8-4, UTF8-char, taken, number, announced};
+ghost use Rattle.utf8.specs.Reading.{Reading, reading};
+ghost use Rattle.utf8.specs.Answers.{paperStep, paperScalarCount, paperDecoded};
+ghost use Rattle.utf8.specs.Calls.{left, over, stepBy, scalarsOf, fillable, counted, decoded};
+
+fn wide(x: u8) -> u32
+    ensures { λ r. ⌜ r ≡ x ⌝ }
+{
+    x as u32
+}
+
+fn leading_ones(x: u8) -> u32
+    ensures { λ r. ⌜ r ≡ leadingZeros 8 (255 - x) ⌝ }
+{
+    u8::leading_zeros(!x)
+}
+
+// UTF8-2, with its one row of ranges.
+fn is_two(a: u8, b: u8) -> bool
+    ensures { λ r. ⌜ ((s : List ℕ) → taken UTF8-2 (a ∷ b ∷ s) ≡ cond r 2 0) ⌝ }
+{
+    (0xC2 <= a) & (a <= 0xDF) & (0x80 <= b) & (b <= 0xBF)
+}
+
+// UTF8-3, a line for each of its rows.
+fn is_three(a: u8, b: u8, c: u8) -> bool
+    ensures { λ r. ⌜ ((s : List ℕ) → taken UTF8-3 (a ∷ b ∷ c ∷ s) ≡ cond r 3 0) ⌝ }
+{
+    ((0xE0 <= a) & (a <= 0xE0) & (0xA0 <= b) & (b <= 0xBF) & (0x80 <= c) & (c <= 0xBF))
+        | ((0xE1 <= a) & (a <= 0xEC) & (0x80 <= b) & (b <= 0xBF) & (0x80 <= c) & (c <= 0xBF))
+        | ((0xED <= a) & (a <= 0xED) & (0x80 <= b) & (b <= 0x9F) & (0x80 <= c) & (c <= 0xBF))
+        | ((0xEE <= a) & (a <= 0xEF) & (0x80 <= b) & (b <= 0xBF) & (0x80 <= c) & (c <= 0xBF))
+}
+
+// UTF8-4, a line for each of its rows.
+fn is_four(a: u8, b: u8, c: u8, d: u8) -> bool
+    ensures { λ r. ⌜ ((s : List ℕ) → taken UTF8-4 (a ∷ b ∷ c ∷ d ∷ s) ≡ cond r 4 0) ⌝ }
+{
+    ((0xF0 <= a)
+        & (a <= 0xF0)
+        & (0x90 <= b)
+        & (b <= 0xBF)
+        & (0x80 <= c)
+        & (c <= 0xBF)
+        & (0x80 <= d)
+        & (d <= 0xBF))
+        | ((0xF1 <= a)
+            & (a <= 0xF3)
+            & (0x80 <= b)
+            & (b <= 0xBF)
+            & (0x80 <= c)
+            & (c <= 0xBF)
+            & (0x80 <= d)
+            & (d <= 0xBF))
+        | ((0xF4 <= a)
+            & (a <= 0xF4)
+            & (0x80 <= b)
+            & (b <= 0x8F)
+            & (0x80 <= c)
+            & (c <= 0xBF)
+            & (0x80 <= d)
+            & (d <= 0xBF))
+}
+
+fn two(a: u8, b: u8) -> u32
+    ensures { λ r. ⌜ r ≡ number (a ∷ b ∷ []) ⌝ }
+{
+    wide(a) % 32 * 64 + wide(b) % 64
+}
+
+fn three(a: u8, b: u8, c: u8) -> u32
+    ensures { λ r. ⌜ r ≡ number (a ∷ b ∷ c ∷ []) ⌝ }
+{
+    (wide(a) % 16 * 64 + wide(b) % 64) * 64 + wide(c) % 64
+}
+
+fn four(a: u8, b: u8, c: u8, d: u8) -> u32
+    ensures { λ r. ⌜ r ≡ number (a ∷ b ∷ c ∷ d ∷ []) ⌝ }
+{
+    ((wide(a) % 8 * 64 + wide(b) % 64) * 64 + wide(c) % 64) * 64 + wide(d) % 64
+}
+
+fn read_two(bytes: &[u8], start: usize) -> Step
+    requires { ⌜ start < length (now bytes) ⌝ }
+    ensures { λ r. ⌜ paperStep r ≡ stepBy UTF8-2 (now (bytes .entry)) start ⌝ }
+{
+    if bytes.len() - start < 2 {
+        return Step::BadUtf8(ByteOffset(start));
+    }
+    let a = bytes[start];
+    let b = bytes[start + 1];
+    if is_two(a, b) {
+        Step::Scalar {
+            value: two(a, b),
+            next: ByteOffset(start + 2),
+        }
+    } else {
+        Step::BadUtf8(ByteOffset(start))
+    }
+}
+
+fn read_three(bytes: &[u8], start: usize) -> Step
+    requires { ⌜ start < length (now bytes) ⌝ }
+    ensures { λ r. ⌜ paperStep r ≡ stepBy UTF8-3 (now (bytes .entry)) start ⌝ }
+{
+    if bytes.len() - start < 3 {
+        return Step::BadUtf8(ByteOffset(start));
+    }
+    let a = bytes[start];
+    let b = bytes[start + 1];
+    let c = bytes[start + 2];
+    if is_three(a, b, c) {
+        Step::Scalar {
+            value: three(a, b, c),
+            next: ByteOffset(start + 3),
+        }
+    } else {
+        Step::BadUtf8(ByteOffset(start))
+    }
+}
+
+fn read_four(bytes: &[u8], start: usize) -> Step
+    requires { ⌜ start < length (now bytes) ⌝ }
+    ensures { λ r. ⌜ paperStep r ≡ stepBy UTF8-4 (now (bytes .entry)) start ⌝ }
+{
+    if bytes.len() - start < 4 {
+        return Step::BadUtf8(ByteOffset(start));
+    }
+    let a = bytes[start];
+    let b = bytes[start + 1];
+    let c = bytes[start + 2];
+    let d = bytes[start + 3];
+    if is_four(a, b, c, d) {
+        Step::Scalar {
+            value: four(a, b, c, d),
+            next: ByteOffset(start + 4),
+        }
+    } else {
+        Step::BadUtf8(ByteOffset(start))
+    }
+}
+
+// A sequence of more than one octet, by its lead's leading one bits.
+fn read_long(bytes: &[u8], start: usize, ones: u32) -> Step
+    requires { ⌜ (start < length (now bytes)) × (0 < ones) ⌝ }
+    ensures { λ r. ⌜ paperStep r ≡ stepBy (announced ones) (now (bytes .entry)) start ⌝ }
+{
+    match ones {
+        2 => read_two(bytes, start),
+        3 => read_three(bytes, start),
+        4 => read_four(bytes, start),
+        _ => Step::BadUtf8(ByteOffset(start)),
+    }
+}
+
+// The scalar whose sequence starts at `at`, and the place after it.
+pub fn read_scalar(bytes: &[u8], at: ByteOffset) -> Step
+    ensures { λ r. ⌜ paperStep r ≡ stepBy UTF8-char (now (bytes .entry)) (at .0) ⌝ }
+{
+    let start = at.0;
+    if bytes.len() <= start {
+        return Step::BadUtf8(at);
+    }
+    let lead = bytes[start];
+    let ones = leading_ones(lead);
+    if ones == 0 {
+        return Step::Scalar {
+            value: wide(lead),
+            next: ByteOffset(start + 1),
+        };
+    }
+    read_long(bytes, start, ones)
+}
+
+// How many scalars the bytes hold.
+pub fn count_scalars(bytes: &[u8]) -> ScalarCount
+    ensures { λ r. ⌜ paperScalarCount r ≡ counted (reading (now (bytes .entry))) ⌝ }
+{
+    let mut count = 0;
+    let mut at = ByteOffset(0);
+    while at.0 < bytes.len() {
+        let Step::Scalar { value: _, next } = read_scalar(bytes, at) else {
+            return ScalarCount::BadUtf8(at);
+        };
+        at = next;
+        count += 1;
+    }
+    ScalarCount::Scalars(count)
+}
+
+// The scalars of well-formed bytes, to the front of a slice that has room for them.
+fn fill_scalars(bytes: &[u8], out: &mut [u32])
+    requires { ⌜ fillable (reading (now bytes)) (length (now out)) ⌝ }
+    ensures { λ _. ⌜ now (out .exit) ≡ over (scalarsOf (reading (now (bytes .entry)))) (now (out .entry)) ⌝ }
+{
+    let mut count = 0;
+    let mut at = ByteOffset(0);
+    while at.0 < bytes.len() {
+        let Step::Scalar { value, next } = read_scalar(bytes, at) else {
+            return;
+        };
+        out[count] = value;
+        at = next;
+        count += 1;
+    }
+}
+
+// All the scalars of the bytes, to the front of `out`.
+pub fn decode(bytes: &[u8], out: &mut [u32]) -> Decoded
+    ensures { λ r. ⌜ left (paperDecoded r) (now (out .exit)) ≡ decoded (reading (now (bytes .entry))) (now (out .entry)) ⌝ }
+{
+    let counted = count_scalars(bytes);
+    match counted {
+        ScalarCount::BadUtf8(at) => Decoded::BadUtf8(at),
+        ScalarCount::Scalars(count) => {
+            if out.len() < count {
+                return Decoded::NoRoom;
+            }
+            fill_scalars(bytes, out);
+            Decoded::Scalars(count)
+        }
+    }
+}
