@@ -12,7 +12,7 @@ use Rattle.promise.specs.Paper.{Paper, done, refused}
 use Rattle.utf8.specs.Rfc3629.{UTF8-char, begins, taken, number}
 use Rattle.utf8.specs.Reading.{Reading, scalars, badAt, prepend, readFrom, reading}
 use Rattle.utf8.specs.Calls.{left, over, stored, stepped, stepBy, counted, decoded, scalarsOf, fillable}
-use Rattle.utf8.proofs.Stores.{stored-not, stored-all}
+use Rattle.utf8.proofs.Stores.{stored-not, stored-all, stored-more}
 use Rattle.utf8.proofs.Taken.{taken-le, taken-short}
 
 pub read-left : (s : List ℕ) (at left : ℕ) → left ≤ length s → readFrom at left s ≡ readFrom (at + left) 0 (drop left s)
@@ -107,11 +107,9 @@ module _ (s cs : List ℕ) (i k : ℕ) (inv : readFrom i 0 (drop i s) ≡ scalar
       let m = prepended v (readFrom j 0 (drop j s)) (drop k cs) (sym (d .0) ∙ inv) in
       let n : k < length cs = omega (arith, simp length-drop at (ap length (m .2))) in
       let w : getD cs k 0 ∷ drop (k + 1) cs ≡ v ∷ m .0 = rw (add-one, ← drop-cons cs k 0 n) (m .2) in
-      let q : v ≡ getD cs k 0 = cc in
       let r : m .0 ≡ drop (k + 1) cs = cc in
-      let kb : k < length b = omega arith in
-      let p : length (take k cs) ≡ k = length-take-le k cs (omega arith) in
-      (d .2, n, d .1, m .1 ∙ ap scalars r, rw (f, q, drop-cons b k 0, set-at _ _ _ _ _ p, add-one, take-suc cs k 0 n, append-snoc))
+      let p : drop k cs ≡ (v ∷ []) ++ drop (k + 1) cs = m .2 ∙ ap (_∷_ v) r in
+      (d .2, n, d .1, m .1 ∙ ap scalars r, stored-more cs b t (v ∷ []) (drop (k + 1) cs) k f p (omega arith) (omega arith))
 
   pub fill-stuck : (x : ℕ) → refused 5 x ≡ stepBy UTF8-char s i → i < length s → ⊥
   fill-stuck x e h =
@@ -145,7 +143,7 @@ module _ (r : Reading) (b : List ℕ) (n : ℕ) (e : done n ≡ counted r) where
   decoded-scalars = ap (λ (x : Reading). decoded x b) (counted-done r n e .0)
 
   pub decode-full : length b < n → left (refused 8 0) b ≡ decoded r b
-  decode-full h = rw decoded-scalars (stored-not (scalarsOf r) b (rw (counted-done r n e .1) h))
+  decode-full h = rw decoded-scalars (stored-not (scalarsOf r) b n (counted-done r n e .1) h)
 
   pub decode-all : (t : List ℕ) → n ≤ length b → t ≡ over (scalarsOf r) b → left (done n) t ≡ decoded r b
-  decode-all t h f = let d = counted-done r n e in rw (decoded-scalars, f, ← d .1) (stored-all (scalarsOf r) b (rw (d .1) h))
+  decode-all t h f = rw decoded-scalars (stored-all (scalarsOf r) b n (counted-done r n e .1) t h f)

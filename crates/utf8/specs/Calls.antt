@@ -43,7 +43,7 @@ unfoldable pub decoded : Reading → List ℕ → Left
 decoded (scalars cs) out = stored cs out
 decoded (badAt k) out = left (refused 5 k) out
 
--- write_scalar
+-- sequence_of
 unfoldable pub sequenceOf : ℕ → Paper (List ℕ)
 sequenceOf c = cond (scalar c) (done (octets c)) (refused 1 0)
 
@@ -55,10 +55,15 @@ octetCount cs = cond (allScalar cs) (done (length (writing cs))) (refused 1 0)
 unfoldable pub encoded : List ℕ → List ℕ → Left
 encoded cs out = cond (allScalar cs) (stored (writing cs) out) (left (refused 1 0) out)
 
--- what a worker below the calls is asked: well-formed octets whose scalars fit n places
+-- What the workers below the calls speak of: the scalars of well-formed octets, and that they fit n places.
 unfoldable pub scalarsOf : Reading → List ℕ
 scalarsOf (scalars cs) = cs
 scalarsOf (badAt k) = []
 
 abbrev pub fillable : Reading → ℕ → Type 0
 fillable r n = (r ≡ scalars (scalarsOf r)) × (length (scalarsOf r) ≤ n)
+
+-- the octets of a sequence, none of a refused one
+abbrev pub octetsIn : Paper (List ℕ) → List ℕ
+octetsIn (done os) = os
+octetsIn (refused n k) = []

@@ -2,3 +2,4 @@ pub mod Rfc3629
 pub mod Reading
 pub mod Answers
 pub mod Calls
+pub mod Theorems

@@ -1,0 +1,57 @@
+-- What is proved of these definitions, beside that the code meets them. The proofs stand in proofs/Theorems.antt.
+use mathlib.Core.Bool.{true}
+use mathlib.Core.List.{List, _∷_}
+use mathlib.Core.Path.{_≡_}
+use Prim.Native.Nat.{ℕ, _-_, _≤_, _<_}
+use lib.Count.{leadingZeros}
+use lib.ListN.{length, take, drop}
+use Rattle.promise.specs.Paper.{Paper, done}
+use Rattle.promise.specs.Settled.{Tells}
+use Rattle.utf8.specs.declared.Step.{Step}
+use Rattle.utf8.specs.declared.ScalarCount.{ScalarCount}
+use Rattle.utf8.specs.declared.Decoded.{Decoded}
+use Rattle.utf8.specs.declared.Sequence.{Sequence}
+use Rattle.utf8.specs.declared.OctetCount.{OctetCount}
+use Rattle.utf8.specs.declared.Encoded.{Encoded}
+use Rattle.utf8.specs.Rfc3629.{UTF8-char, taken, announced}
+use Rattle.utf8.specs.Reading.{scalars, badAt, reading, allScalar, writing}
+use Rattle.utf8.specs.Answers.{paperStep, paperScalarCount, paperDecoded, paperSequence, paperOctetCount, paperEncoded}
+use Rattle.utf8.specs.Calls.{Left, left, over, decoded, encoded}
+
+-- The table of section 3 and the ABNF of section 4 say the same: octets are well formed, and of the scalars cs, exactly
+-- where they are what cs is written as.
+abbrev pub ReadsWritten : Type 0
+ReadsWritten = (cs : List ℕ) → allScalar cs ≡ true → reading (writing cs) ≡ scalars cs
+
+abbrev pub WritesRead : Type 0
+WritesRead = (s cs : List ℕ) → reading s ≡ scalars cs → (allScalar cs ≡ true) × (writing cs ≡ s)
+
+-- The two round trips of the calls: what encode left is decoded to its scalars, and what decode left is encoded to its bytes.
+abbrev pub DecodesEncoded : Type 0
+DecodesEncoded =
+    (cs out back : List ℕ) (n : ℕ) → encoded cs out .answer ≡ done n → length cs ≤ length back
+    → decoded (reading (take n (encoded cs out .out))) back ≡ left (done (length cs)) (over cs back)
+
+abbrev pub EncodesDecoded : Type 0
+EncodesDecoded =
+    (s out back : List ℕ) (n : ℕ) → decoded (reading s) out .answer ≡ done n → length s ≤ length back
+    → encoded (take n (decoded (reading s) out .out)) back ≡ left (done (length s)) (over s back)
+
+-- The offset of a refusal: all before it is well formed, and no UTF8-char starts there.
+abbrev pub BadPlace : Type 0
+BadPlace =
+    (s : List ℕ) (k : ℕ) → reading s ≡ badAt k
+    → (k < length s) × (taken UTF8-char (drop k s) ≡ 0) × ((cs : List ℕ) × (reading (take k s) ≡ scalars cs))
+
+-- Document 01's rule for the lead byte agrees with the ABNF.
+abbrev pub LeadAnnounces : Type 0
+LeadAnnounces = (b : ℕ) (s : List ℕ) → b < 256 → taken UTF8-char (b ∷ s) ≡ taken (announced (leadingZeros 8 (255 - b))) (b ∷ s)
+
+-- Each public promise settles the whole outcome: the answer and the lent slice.
+pub record Settled : Type 0 where
+  pub read-scalar : Tells paperStep
+  pub count-scalars : Tells paperScalarCount
+  pub decode : Tells {A = Decoded × List ℕ} (λ o. left (paperDecoded (o .0)) (o .1))
+  pub sequence-of : Tells paperSequence
+  pub count-octets : Tells paperOctetCount
+  pub encode : Tells {A = Encoded × List ℕ} (λ o. left (paperEncoded (o .0)) (o .1))
