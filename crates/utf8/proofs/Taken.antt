@@ -1,5 +1,5 @@
 -- The rules of the ABNF at the head of some octets.
-use mathlib.Core.Path.{_≡_, refl}
+use mathlib.Core.Path.{_≡_, refl, _∙_}
 use mathlib.Core.Bool.{Bool, true, false, cond, _&&_, _||_, and-assoc, and-true, false≢true}
 use mathlib.Core.List.{List, [], _∷_}
 use Prim.Native.Nat.{ℕ, _<_, _≤_}
@@ -9,10 +9,17 @@ use lib.Dec.{leb}
 use lib.ListN.{length}
 use Rattle.utf8.specs.Rfc3629.{Range, within, begins, taken}
 
--- two alternatives with one answer are one
-pub cond-or : {A : Type 0} (a b : Bool) (x y : A) → cond a x (cond b x y) ≡ cond (a || b) x y
-cond-or true b x y = refl
-cond-or false b x y = refl
+-- alternatives with one answer are one
+module _ {A : Type 0} where
+  cond-or : (p q : Bool) (x y : A) → cond p x (cond q x y) ≡ cond (p || q) x y
+  cond-or true q x y = refl
+  cond-or false q x y = refl
+
+  pub cond-or-3 : (p q r : Bool) (x y : A) → cond p x (cond q x (cond r x y)) ≡ cond (p || q || r) x y
+  cond-or-3 p q r x y = cond-or p q x (cond r x y) ∙ cond-or (p || q) r x y
+
+  pub cond-or-4 : (p q r t : Bool) (x y : A) → cond p x (cond q x (cond r x (cond t x y))) ≡ cond (p || q || r || t) x y
+  cond-or-4 p q r t x y = cond-or-3 p q r x (cond t x y) ∙ cond-or (p || q || r) t x y
 
 pub both : (a b : Bool) → (a && b) ≡ true → (a ≡ true) × (b ≡ true)
 both true b e = (refl, e)

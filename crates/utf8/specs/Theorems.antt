@@ -1,10 +1,10 @@
 -- What is proved of these definitions, beside that the code meets them. The proofs stand in proofs/Theorems.antt.
 use mathlib.Core.Bool.{true}
-use mathlib.Core.List.{List, _∷_}
+use mathlib.Core.List.{List, _∷_, _++_}
 use mathlib.Core.Path.{_≡_}
 use Prim.Native.Nat.{ℕ, _-_, _≤_, _<_}
 use lib.Count.{leadingZeros}
-use lib.ListN.{length, take, drop}
+use lib.ListN.{length, take}
 use Rattle.promise.specs.Paper.{Paper, done}
 use Rattle.promise.specs.Settled.{Tells}
 use Rattle.utf8.specs.declared.Step.{Step}
@@ -37,11 +37,11 @@ EncodesDecoded =
     (s out back : List ℕ) (n : ℕ) → decoded (reading s) out .answer ≡ done n → length s ≤ length back
     → encoded (take n (decoded (reading s) out .out)) back ≡ left (done (length s)) (over s back)
 
--- The offset of a refusal: all before it is well formed, and no UTF8-char starts there.
+-- The offset of a refusal: the octets before it are what some scalars are written as, and no UTF8-char starts there.
 abbrev pub BadPlace : Type 0
 BadPlace =
     (s : List ℕ) (k : ℕ) → reading s ≡ badAt k
-    → (k < length s) × (taken UTF8-char (drop k s) ≡ 0) × ((cs : List ℕ) × (reading (take k s) ≡ scalars cs))
+    → (cs : List ℕ) × (q : List ℕ) × (s ≡ writing cs ++ q) × (length (writing cs) ≡ k) × (allScalar cs ≡ true) × (0 < length q) × (taken UTF8-char q ≡ 0)
 
 -- Document 01's rule for the lead byte agrees with the ABNF.
 abbrev pub LeadAnnounces : Type 0
