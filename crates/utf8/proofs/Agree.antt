@@ -167,7 +167,7 @@ fit-none : (s : List ℕ) → begins [] s ≡ true
 unfolding begins
 fit-none s = refl
 
-takes-1 : (c : ℕ) (s : List ℕ) → c ≤ 0x7F → taken UTF8-char (c ∷ s) ≡ 1
+pub takes-1 : (c : ℕ) (s : List ℕ) → c ≤ 0x7F → taken UTF8-char (c ∷ s) ≡ 1
 takes-1 c s h = hit _ _ _ (fit _ _ c s (omega arith) h (fit-none s))
 
 takes-2 : (a b : ℕ) (s : List ℕ) → 0xC2 ≤ a → a ≤ 0xDF → 0x80 ≤ b → b ≤ 0xBF → taken UTF8-char (a ∷ b ∷ s) ≡ 2

@@ -6,9 +6,9 @@ use mathlib.Core.Logic.{⊎-elim}
 use Prim.Native.Nat.{ℕ, zero, suc, _-_, _<_, _≤_}
 use native.Mathlib.Nat.{eq-or-lt-of-le}
 use native.Mathlib.Omega.{arith}
-use borrow.Author.Tests.{not-true, eq-eqb}
+use borrow.Author.Tests.{not-true, eq-eqb, leb-true}
 use lib.Count.{leadingZeros}
-use lib.Dec.{eqb}
+use lib.Dec.{eqb, leb}
 use Rattle.utf8.specs.Rfc3629.{Range, UTF8-1, UTF8-2, UTF8-3, UTF8-4, UTF8-char, within, begins, taken, announced}
 use Rattle.utf8.proofs.Taken.{both}
 
@@ -76,16 +76,14 @@ leads b s h =
     let t = both (misses (before o) b) (misses (after o) b) (each test 256 refl b h) in
     ap (λ (rule : List (List Range)). taken rule (b ∷ s)) (sym (parts o)) ∙ only b s (before o) (announced o) (after o) (t .0) (t .1)
 
--- a lead with no leading one bits is a sequence by itself
+-- a lead with no leading one bits
 single : ℕ → Bool
-single b = not (eqb (leadingZeros 8 (255 - b)) 0) || within (0x00, 0x7F) b
+single b = not (eqb (leadingZeros 8 (255 - b)) 0) || leb b 0x7F
 
 singles : below single 256 ≡ true
 unfolding single leadingZeros
 singles = refl
 
-pub leads-one : (b : ℕ) (s : List ℕ) → b < 256 → leadingZeros 8 (255 - b) ≡ 0 → taken UTF8-char (b ∷ s) ≡ 1
-unfolding single begins taken
-leads-one b s h e =
-    let t : within (0x00, 0x7F) b ≡ true = rw (eq-eqb _ 0 e) at (each single 256 singles b h) in
-    rw t
+pub no-ones : (b : ℕ) → b < 256 → leadingZeros 8 (255 - b) ≡ 0 → b ≤ 0x7F
+unfolding single
+no-ones b h e = leb-true _ _ (rw (eq-eqb _ 0 e) at (each single 256 singles b h))

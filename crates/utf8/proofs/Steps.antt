@@ -15,7 +15,8 @@ use lib.Seq.{drop-cons, take-at}
 use Rattle.promise.specs.Paper.{Paper, done, refused}
 use Rattle.utf8.specs.Rfc3629.{Range, UTF8-char, taken, number, announced}
 use Rattle.utf8.specs.Calls.{stepped, stepBy}
-use Rattle.utf8.proofs.Lead.{leads, leads-one}
+use Rattle.utf8.proofs.Lead.{leads}
+use Rattle.utf8.proofs.Agree.{takes-1}
 use Rattle.utf8.proofs.Taken.{longRows, taken-short}
 
 -- Whether a rule takes the octets p, of which drop i s is made first, decides a step by that rule.
@@ -57,8 +58,6 @@ pub unannounced : (s : List ℕ) (i o : ℕ) → 0 < o → (o ≡ 2 → ⊥) →
 unfolding announced taken stepped
 unannounced s i o h p q r = rw (ne-eqb o 0 (omega arith), ne-eqb o 2 p, ne-eqb o 3 q, ne-eqb o 4 r)
 
-pub ascii : (s : List ℕ) (i o v : ℕ) → i < length s → getD s i 0 < 256 → o ≡ leadingZeros 8 (255 - getD s i 0) → o ≡ 0 → v ≡ getD s i 0
-    → done (v, i + 1) ≡ stepBy UTF8-char s i
+pub ascii : (s : List ℕ) (i v : ℕ) → i < length s → getD s i 0 ≤ 0x7F → v ≡ getD s i 0 → done (v, i + 1) ≡ stepBy UTF8-char s i
 unfolding number
-ascii s i o v h k e z f =
-    found UTF8-char s (getD s i 0 ∷ []) (drop (i + 1) s) i 0 true (next-1 s i h) refl (leads-one (getD s i 0) (drop (i + 1) s) k (sym e ∙ z)) v refl f
+ascii s i v h k f = found UTF8-char s (getD s i 0 ∷ []) (drop (i + 1) s) i 0 true (next-1 s i h) refl (takes-1 (getD s i 0) (drop (i + 1) s) k) v refl f

@@ -183,14 +183,24 @@ pub fn read_scalar(bytes: &[u8], at: ByteOffset) -> Step
     read_long(bytes, start, ones)
 }
 
-// How many scalars the bytes hold.
+// How many scalars the bytes hold. ASCII is read here, so that a run of it makes no call.
 pub fn count_scalars(bytes: &[u8]) -> ScalarCount
     ensures { λ r. ⌜ paperScalarCount r ≡ counted (reading (now (bytes .entry))) ⌝ }
 {
     let mut count = 0;
     let mut at = ByteOffset(0);
     while at.0 < bytes.len() {
-        let Step::Scalar { value: _, next } = read_scalar(bytes, at) else {
+        let start = at.0;
+        let lead = bytes[start];
+        let step = if lead <= 0x7F {
+            Step::Scalar {
+                value: wide(lead),
+                next: ByteOffset(start + 1),
+            }
+        } else {
+            read_scalar(bytes, at)
+        };
+        let Step::Scalar { value: _, next } = step else {
             return ScalarCount::BadUtf8(at);
         };
         at = next;
@@ -207,7 +217,17 @@ fn fill_scalars(bytes: &[u8], out: &mut [u32])
     let mut count = 0;
     let mut at = ByteOffset(0);
     while at.0 < bytes.len() {
-        let Step::Scalar { value, next } = read_scalar(bytes, at) else {
+        let start = at.0;
+        let lead = bytes[start];
+        let step = if lead <= 0x7F {
+            Step::Scalar {
+                value: wide(lead),
+                next: ByteOffset(start + 1),
+            }
+        } else {
+            read_scalar(bytes, at)
+        };
+        let Step::Scalar { value, next } = step else {
             return;
         };
         out[count] = value;

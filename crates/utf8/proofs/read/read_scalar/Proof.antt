@@ -1,3 +1,4 @@
+use Rattle.utf8.proofs.Lead.{no-ones}
 use Rattle.utf8.proofs.Steps.{announces, ascii, cut-off}
 use Rattle.utf8.specs.Rfc3629.{UTF8-char}
 use mathlib.Core.Path.{refl, sym, _∙_}
@@ -34,7 +35,8 @@ add-t11 c = search needs
 -- src/read.rt:157:9
 returns-2 : tie.Need-returns-2
 returns-2 c = let s = c .before .before .before .before .before .before .args .bytes .now in let i = c .before .before .before .before .before .before .args .at .0 in
-    ascii s i _ _ (c .before .before .before .before .if1 .left) (c .before .before .before .shared-slice-known2 .given i .fits) (c .before .before .leading-ones .ensures) (c .before .if2 .taken) (c .wide .ensures)
+    let b = no-ones _ (c .before .before .before .shared-slice-known2 .given i .fits) (sym (c .before .before .leading-ones .ensures) ∙ c .before .if2 .taken) in
+    ascii s i _ (c .before .before .before .before .if1 .left) b (c .wide .ensures)
 
 -- src/read.rt:162:5
 read-long-requires : tie.Need-read-long-requires
