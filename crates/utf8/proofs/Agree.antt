@@ -1,15 +1,15 @@
 -- The table of section 3 and the ABNF of section 4 agree on one sequence.
-use mathlib.Core.Path.{_≡_, refl, sym, ap, _∙_}
+use mathlib.Core.Path.{_≡_, refl, _∙_}
 use mathlib.Core.Bool.{Bool, true, false, cond, _&&_, and-false, false≢true}
 use mathlib.Core.List.{List, [], _∷_, _++_}
 use mathlib.Core.Logic.{_⊎_, ⊎-elim}
-use Prim.Native.Nat.{ℕ, zero, suc, _+_, _*_, _/_, _%_, _≤_, _<_}
+use Prim.Native.Nat.{ℕ, suc, _+_, _*_, _/_, _%_, _≤_, _<_}
 use native.Mathlib.Nat.{div-add-mod'}
 use native.Mathlib.Omega.{arith}
 use borrow.Author.Tests.{leb-true, lt-leb}
 use lib.Dec.{leb}
 use lib.ListN.{length, take, drop}
-use Rattle.utf8.specs.Rfc3629.{Range, UTF8-1, UTF8-2, UTF8-3, UTF8-4, UTF8-char, UTF8-tail, within, begins, taken, scalar, octets, number}
+use Rattle.utf8.specs.Rfc3629.{Range, UTF8-2, UTF8-3, UTF8-4, UTF8-char, UTF8-tail, within, begins, taken, scalar, octets, number}
 use Rattle.utf8.proofs.Taken.{both}
 use Rattle.utf8.proofs.Numbers.{at-most, within-true, scalar-low, scalar-high, scalar-ranges, scalar-le, octets-1, octets-2, octets-3, octets-4}
 

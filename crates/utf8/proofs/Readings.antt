@@ -1,19 +1,18 @@
 -- A whole slice read, step by step.
 use mathlib.Core.Path.{_≡_, refl, sym, ap, _∙_}
-use mathlib.Core.Bool.{Bool, true, false, cond}
-use mathlib.Core.List.{List, [], _∷_, _++_, append-nil}
+use mathlib.Core.List.{List, [], _∷_, _++_}
 use Prim.Native.Nat.{ℕ, zero, suc, _+_, _-_, _≤_, _<_}
 use native.Mathlib.Nat.{add-zero, zero-add}
 use native.Mathlib.Numerals.{add-one}
 use native.Mathlib.Omega.{arith}
 use lib.ListN.{length, take, drop, getD, set, length-drop, drop-of-length-le}
-use lib.Seq.{drop-drop, drop-cons, take-suc, take-length, set-at, append-snoc, length-take-le}
+use lib.Seq.{drop-drop, drop-cons, take-length}
 use Rattle.promise.specs.Paper.{Paper, done, refused}
-use Rattle.utf8.specs.Rfc3629.{UTF8-char, begins, taken, number}
+use Rattle.utf8.specs.Rfc3629.{UTF8-char, taken, number}
 use Rattle.utf8.specs.Reading.{Reading, scalars, badAt, prepend, readFrom, reading}
 use Rattle.utf8.specs.Calls.{left, over, stored, stepped, stepBy, counted, decoded, scalarsOf, fillable}
 use Rattle.utf8.proofs.Stores.{stored-not, stored-all, stored-more}
-use Rattle.utf8.proofs.Taken.{taken-le, taken-short}
+use Rattle.utf8.proofs.Taken.{taken-le}
 
 pub read-left : (s : List ℕ) (at left : ℕ) → left ≤ length s → readFrom at left s ≡ readFrom (at + left) 0 (drop left s)
 unfolding readFrom

@@ -1,18 +1,15 @@
 -- One scalar read.
-use mathlib.Core.Path.{_≡_, refl, sym, ap, _∙_}
-use mathlib.Core.Bool.{Bool, true, false, cond, _&&_, _||_, and-false}
+use mathlib.Core.Path.{_≡_, refl, _∙_}
+use mathlib.Core.Bool.{Bool, true, false, cond}
 use mathlib.Core.List.{List, [], _∷_, _++_}
-use mathlib.Core.Logic.{⊎-elim}
-use Prim.Native.Nat.{ℕ, zero, suc, _+_, _-_, _≤_, _<_}
-use native.Mathlib.Nat.{eq-or-lt-of-le}
+use Prim.Native.Nat.{ℕ, suc, _+_, _-_, _≤_, _<_}
 use native.Mathlib.Numerals.{add-one}
 use native.Mathlib.Omega.{arith}
 use borrow.Author.Tests.{ne-eqb}
 use lib.Count.{leadingZeros}
-use lib.Dec.{eqb}
-use lib.ListN.{length, take, drop, getD, length-drop}
+use lib.ListN.{length, drop, getD, length-drop}
 use lib.Seq.{drop-cons, take-at}
-use Rattle.promise.specs.Paper.{Paper, done, refused}
+use Rattle.promise.specs.Paper.{done, refused}
 use Rattle.utf8.specs.Rfc3629.{Range, UTF8-char, taken, number, announced}
 use Rattle.utf8.specs.Calls.{stepped, stepBy}
 use Rattle.utf8.proofs.Lead.{leads}

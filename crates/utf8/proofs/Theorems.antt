@@ -1,17 +1,16 @@
 -- The theorems that specs/Theorems.antt states.
 use mathlib.Core.Path.{_≡_, refl, sym, ap, _∙_}
-use mathlib.Core.Bool.{Bool, true, false, cond, _&&_}
+use mathlib.Core.Bool.{Bool, true, false, cond}
 use mathlib.Core.List.{List, [], _∷_, _++_, append-assoc, append-nil}
-use Prim.Native.Nat.{ℕ, zero, suc, _+_, _-_, _≤_, _<_}
-use native.Mathlib.Nat.{add-zero}
+use Prim.Native.Nat.{ℕ, zero, suc, _+_, _≤_, _<_}
 use native.Mathlib.Omega.{arith}
 use lib.Dec.{ltb}
 use lib.ListN.{length, take, drop, take-append-drop, length-append, length-take}
 use lib.Seq.{take-append-seam, drop-append-seam, drop-nil}
-use Rattle.promise.specs.Paper.{Paper, done, refused}
+use Rattle.promise.specs.Paper.{done, refused}
 use Rattle.utf8.specs.Rfc3629.{UTF8-char, taken, number, scalar, octets}
 use Rattle.utf8.specs.Reading.{Reading, scalars, badAt, prepend, readFrom, reading, allScalar, writing}
-use Rattle.utf8.specs.Calls.{Left, left, over, stored, decoded, encoded}
+use Rattle.utf8.specs.Calls.{left, over, stored, decoded, encoded}
 use Rattle.utf8.specs.Theorems.{ReadsWritten, WritesRead, DecodesEncoded, EncodesDecoded, BadPlace, LeadAnnounces}
 use Rattle.utf8.proofs.Taken.{both, taken-le}
 use Rattle.utf8.proofs.Lead.{leads}

@@ -2,7 +2,6 @@
 use mathlib.Core.List.{List, [], _∷_}
 use Prim.Native.Nat.{ℕ}
 use Rattle.promise.specs.Paper.{Paper, done, refused}
-use Rattle.utf8.specs.declared.ByteOffset.{ByteOffset}
 use Rattle.utf8.specs.declared.ScalarCount.{ScalarCount}
 use Rattle.utf8.specs.declared.ScalarCount.the-variants as scalarCount
 use Rattle.utf8.specs.declared.Decoded.{Decoded}

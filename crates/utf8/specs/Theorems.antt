@@ -5,18 +5,14 @@ use mathlib.Core.Path.{_≡_}
 use Prim.Native.Nat.{ℕ, _-_, _≤_, _<_}
 use lib.Count.{leadingZeros}
 use lib.ListN.{length, take}
-use Rattle.promise.specs.Paper.{Paper, done}
+use Rattle.promise.specs.Paper.{done}
 use Rattle.promise.specs.Settled.{Tells}
-use Rattle.utf8.specs.declared.Step.{Step}
-use Rattle.utf8.specs.declared.ScalarCount.{ScalarCount}
 use Rattle.utf8.specs.declared.Decoded.{Decoded}
-use Rattle.utf8.specs.declared.Sequence.{Sequence}
-use Rattle.utf8.specs.declared.OctetCount.{OctetCount}
 use Rattle.utf8.specs.declared.Encoded.{Encoded}
 use Rattle.utf8.specs.Rfc3629.{UTF8-char, taken, announced}
 use Rattle.utf8.specs.Reading.{scalars, badAt, reading, allScalar, writing}
 use Rattle.utf8.specs.Answers.{paperStep, paperScalarCount, paperDecoded, paperSequence, paperOctetCount, paperEncoded}
-use Rattle.utf8.specs.Calls.{Left, left, over, decoded, encoded}
+use Rattle.utf8.specs.Calls.{left, over, decoded, encoded}
 
 -- The table of section 3 and the ABNF of section 4 say the same: octets are well formed, and of the scalars cs, exactly
 -- where they are what cs is written as.

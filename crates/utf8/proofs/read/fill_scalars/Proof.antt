@@ -1,22 +1,18 @@
-use Rattle.utf8.proofs.Readings.{fill-again, fill-stuck, fill-all}
-use Rattle.utf8.proofs.Steps.{ascii}
-use Rattle.utf8.specs.Calls.{stepBy, scalarsOf}
-use Rattle.utf8.specs.Reading.{scalars, readFrom, reading}
-use Rattle.utf8.specs.Answers.{paperStep}
-use Rattle.utf8.specs.Rfc3629.{UTF8-char}
-use lib.ListN.{length, take, drop, length-set}
-use Prim.Native.Nat.{_≤_, _-_}
-use mathlib.Core.Logic.{⊎-elim}
 use mathlib.Core.List.{_++_}
+use mathlib.Core.Logic.{⊎-elim}
 use mathlib.Core.Path.{_≡_, refl, sym, ap, _∙_}
+use Prim.Native.Nat.{_≤_, _-_}
 use native.Mathlib.Omega.{arith}
 use borrow.Author.Needs.{needs}
+use lib.ListN.{length, take, drop, length-set}
+use Rattle.utf8.proofs.Readings.{fill-again, fill-stuck, fill-all}
+use Rattle.utf8.proofs.Steps.{ascii}
+use Rattle.utf8.specs.Answers.{paperStep}
+use Rattle.utf8.specs.Calls.{stepBy, scalarsOf}
+use Rattle.utf8.specs.Reading.{scalars, readFrom, reading}
+use Rattle.utf8.specs.Rfc3629.{UTF8-char}
 use Rattle.utf8.proofs.read.fill_scalars.Statement.{statement}
 use Rattle.utf8.proofs.read.fill_scalars.Tie as tie
-use Rattle.utf8.proofs.read.fill_scalars.Reads as reads
-use Rattle.utf8.proofs.read.fill_scalars.Lts as lts
-use Rattle.utf8.proofs.read.read_scalar.Reads as read-scalar-reads
-use Rattle.utf8.proofs.read.wide.Reads as wide-reads
 
 abbrev Inv-loop : tie.InvT-loop
 Inv-loop bytes out₀ count₀ at₀ out count at = (at .0 ≤ length bytes) × (length out ≡ length out₀) × (count ≤ length (scalarsOf (reading bytes))) × (readFrom (at .0) 0 (drop (at .0) bytes) ≡ scalars (drop count (scalarsOf (reading bytes)))) × (out ≡ take count (scalarsOf (reading bytes)) ++ drop count out₀)
@@ -24,35 +20,27 @@ Inv-loop bytes out₀ count₀ at₀ out count at = (at .0 ≤ length bytes) × 
 abbrev μ-loop : tie.MeasureT-loop
 μ-loop bytes out₀ count₀ at₀ out count at = length bytes - at .0
 
--- src/read.rt:219:5
 loop-holds : tie.Need-loop-holds Inv-loop μ-loop
 loop-holds c = (omega arith, refl, omega arith, c .before .before .pre .0, refl)
 
--- src/read.rt:221:20
 shared-slice-read-lead : tie.Need-shared-slice-read-lead Inv-loop μ-loop
 shared-slice-read-lead c = search needs
 
--- src/read.rt:224:24
 wide-requires : tie.Need-wide-requires Inv-loop μ-loop
 wide-requires c κs = search needs
 
--- src/read.rt:225:34
 add-t16 : tie.Need-add-t16 Inv-loop μ-loop
 add-t16 c = search needs
 
--- src/read.rt:228:13
 read-scalar-requires : tie.Need-read-scalar-requires Inv-loop μ-loop
 read-scalar-requires c κs = search needs
 
--- src/read.rt:230:28
 enum-known-step : tie.Need-enum-known-step Inv-loop μ-loop
 enum-known-step c = search needs
 
--- src/read.rt:231:13
 enum-told : tie.Need-enum-told Inv-loop μ-loop
 enum-told c = search needs
 
--- src/read.rt:231:13
 same-length : tie.Need-same-length Inv-loop μ-loop
 same-length c = search needs
 
@@ -62,46 +50,38 @@ stepped c =
     ⊎-elim (λ w. ap paperStep (w .2) ∙ ascii _ (c .before .before .before .before .loop .at .0) _ (c .before .before .if1 .taken) (w .0 .taken) (w .1 .ensures))
     (λ w. ap paperStep (w .2) ∙ w .1 .ensures) (c .if2 .came)
 
--- src/read.rt:231:13
 returns : tie.Need-returns Inv-loop μ-loop
 returns c = let l = c .before .before .before .before .before .before .loop in let g = c .enum-told .given in
     absurd (fill-stuck _ _ (l .at .0) (l .count) (l .inv .3) (g .0 .0 .0) (ap paperStep (sym (g .1)) ∙ stepped (c .before .before)) (c .before .before .before .before .if1 .taken))
 
--- src/read.rt:233:9
 mul-out : tie.Need-mul-out Inv-loop μ-loop
 mul-out c = let l = c .before .before .before .before .before .before .before .loop in let g = c .before .step .given in
     let t = fill-again _ _ (l .at .0) (l .count) (l .inv .3) _ _ (g .0 .0) (g .0 .1 .0 .0) (ap paperStep (sym (g .1)) ∙ stepped (c .before .before .before)) (l .inv .0) (c .before .before .before .before .before .before .before .before .before .before .pre .1) (l .inv .4) in
     omega arith
 
--- src/read.rt:233:9
 slice-write-out : tie.Need-slice-write-out Inv-loop μ-loop
 slice-write-out c = let l = c .before .before .before .before .before .before .before .loop in let g = c .before .step .given in
     let t = fill-again _ _ (l .at .0) (l .count) (l .inv .3) _ _ (g .0 .0) (g .0 .1 .0 .0) (ap paperStep (sym (g .1)) ∙ stepped (c .before .before .before)) (l .inv .0) (c .before .before .before .before .before .before .before .before .before .before .pre .1) (l .inv .4) in
     omega arith
 
--- src/read.rt:235:9
 add-count : tie.Need-add-count Inv-loop μ-loop
 add-count c = let l = c .before .before .before .before .before .before .before .loop in let g = c .before .step .given in
     let t = fill-again _ _ (l .at .0) (l .count) (l .inv .3) _ _ (g .0 .0) (g .0 .1 .0 .0) (ap paperStep (sym (g .1)) ∙ stepped (c .before .before .before)) (l .inv .0) (c .before .before .before .before .before .before .before .before .before .before .pre .1) (l .inv .4) in
     omega arith
 
--- src/read.rt:219:5
 loop-less : tie.Need-loop-less Inv-loop μ-loop
 loop-less c = let l = c .before .before .before .before .before .before .before .loop in let g = c .before .step .given in
     let t = fill-again _ _ (l .at .0) (l .count) (l .inv .3) _ _ (g .0 .0) (g .0 .1 .0 .0) (ap paperStep (sym (g .1)) ∙ stepped (c .before .before .before)) (l .inv .0) (c .before .before .before .before .before .before .before .before .before .before .pre .1) (l .inv .4) in
     omega arith
 
--- src/read.rt:219:5
 loop-again : tie.Need-loop-again Inv-loop μ-loop
 loop-again c = let l = c .before .before .before .before .before .before .before .loop in let g = c .before .step .given in
     let t = fill-again _ _ (l .at .0) (l .count) (l .inv .3) _ _ (g .0 .0) (g .0 .1 .0 .0) (ap paperStep (sym (g .1)) ∙ stepped (c .before .before .before)) (l .inv .0) (c .before .before .before .before .before .before .before .before .before .before .pre .1) (l .inv .4) in
     (t .0, simp length-set (l .inv .1), omega arith, t .3, t .4)
 
--- src/read.rt:213:1
 same-length-2 : tie.Need-same-length-2 Inv-loop μ-loop
 same-length-2 c = search needs
 
--- src/read.rt:213:1
 returns-2 : tie.Need-returns-2 Inv-loop μ-loop
 returns-2 c = let l = c .before .before .loop in fill-all _ _ (l .at .0) (l .count) (l .inv .3) _ _ (c .if1 .left) (l .inv .2) (l .inv .4)
 

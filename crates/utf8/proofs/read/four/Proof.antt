@@ -1,53 +1,38 @@
-use Rattle.utf8.specs.Rfc3629.{number}
-use native.Mathlib.Omega.{arith}
 use borrow.Author.Needs.{needs}
+use Rattle.utf8.specs.Rfc3629.{number}
 use Rattle.utf8.proofs.read.four.Statement.{statement}
 use Rattle.utf8.proofs.read.four.Tie as tie
-use Rattle.utf8.proofs.read.four.Reads as reads
-use Rattle.utf8.proofs.read.four.Lts as lts
-use Rattle.utf8.proofs.read.wide.Reads as wide-reads
 
--- src/read.rt:70:7
 wide-requires : tie.Need-wide-requires
 wide-requires c κs = search needs
 
--- src/read.rt:70:7
 mul-result : tie.Need-mul-result
 mul-result c = search needs
 
--- src/read.rt:70:26
 wide-requires-2 : tie.Need-wide-requires-2
 wide-requires-2 c κs = search needs
 
--- src/read.rt:70:7
 add-result : tie.Need-add-result
 add-result c = search needs
 
--- src/read.rt:70:6
 mul-result-2 : tie.Need-mul-result-2
 mul-result-2 c = search needs
 
--- src/read.rt:70:47
 wide-requires-3 : tie.Need-wide-requires-3
 wide-requires-3 c κs = search needs
 
--- src/read.rt:70:6
 add-result-2 : tie.Need-add-result-2
 add-result-2 c = search needs
 
--- src/read.rt:70:5
 mul-result-3 : tie.Need-mul-result-3
 mul-result-3 c = search needs
 
--- src/read.rt:70:68
 wide-requires-4 : tie.Need-wide-requires-4
 wide-requires-4 c κs = search needs
 
--- src/read.rt:70:5
 add-result-3 : tie.Need-add-result-3
 add-result-3 c = search needs
 
--- src/read.rt:67:1
 returns : tie.Need-returns
 unfolding number
 returns c = rw (c .before .before .before .wide .ensures, c .before .before .wide2 .ensures, c .before .wide3 .ensures, c .wide4 .ensures)

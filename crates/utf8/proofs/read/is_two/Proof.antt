@@ -1,13 +1,8 @@
 use Rattle.utf8.proofs.Taken.{row-2}
 use Rattle.utf8.specs.Rfc3629.{taken}
-use native.Mathlib.Omega.{arith}
-use borrow.Author.Needs.{needs}
 use Rattle.utf8.proofs.read.is_two.Statement.{statement}
 use Rattle.utf8.proofs.read.is_two.Tie as tie
-use Rattle.utf8.proofs.read.is_two.Reads as reads
-use Rattle.utf8.proofs.read.is_two.Lts as lts
 
--- src/read.rt:30:1
 returns : tie.Need-returns
 unfolding taken
 returns c = λ s. rw (row-2)

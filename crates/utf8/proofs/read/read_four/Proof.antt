@@ -1,72 +1,54 @@
-use Rattle.utf8.proofs.Steps.{found, lost, cut-off, next-4}
-use Rattle.utf8.specs.Rfc3629.{UTF8-4}
-use lib.ListN.{getD, drop}
-use Prim.Native.Nat.{_+_}
-use mathlib.Core.Path.{refl}
 use mathlib.Core.List.{[], _∷_}
+use mathlib.Core.Path.{refl}
+use Prim.Native.Nat.{_+_}
 use native.Mathlib.Omega.{arith}
 use borrow.Author.Needs.{needs}
+use lib.ListN.{getD, drop}
+use Rattle.utf8.proofs.Steps.{found, lost, cut-off, next-4}
+use Rattle.utf8.specs.Rfc3629.{UTF8-4}
 use Rattle.utf8.proofs.read.read_four.Statement.{statement}
 use Rattle.utf8.proofs.read.read_four.Tie as tie
-use Rattle.utf8.proofs.read.read_four.Reads as reads
-use Rattle.utf8.proofs.read.read_four.Lts as lts
-use Rattle.utf8.proofs.read.four.Reads as four-reads
-use Rattle.utf8.proofs.read.is_four.Reads as is-four-reads
 
--- src/read.rt:116:8
 sub-if1 : tie.Need-sub-if1
 sub-if1 c = search needs
 
--- src/read.rt:117:9
 returns : tie.Need-returns
 returns c = let s = c .before .before .args .bytes .now in let i = c .before .before .args .start in cut-off 4 UTF8-4 s i refl (c .if1 .taken)
 
--- src/read.rt:119:13
 shared-slice-read-a : tie.Need-shared-slice-read-a
 shared-slice-read-a c = search needs
 
--- src/read.rt:120:19
 add-b : tie.Need-add-b
 add-b c = search needs
 
--- src/read.rt:120:13
 shared-slice-read-b : tie.Need-shared-slice-read-b
 shared-slice-read-b c = search needs
 
--- src/read.rt:121:19
 add-c : tie.Need-add-c
 add-c c = search needs
 
--- src/read.rt:121:13
 shared-slice-read-c : tie.Need-shared-slice-read-c
 shared-slice-read-c c = search needs
 
--- src/read.rt:122:19
 add-d : tie.Need-add-d
 add-d c = search needs
 
--- src/read.rt:122:13
 shared-slice-read-d : tie.Need-shared-slice-read-d
 shared-slice-read-d c = search needs
 
--- src/read.rt:123:8
 is-four-requires : tie.Need-is-four-requires
 is-four-requires c κs = search needs
 
--- src/read.rt:125:20
 four-requires : tie.Need-four-requires
 four-requires c κs = search needs
 
--- src/read.rt:126:30
 add-t19 : tie.Need-add-t19
 add-t19 c = search needs
 
--- src/read.rt:112:1
 returns-2 : tie.Need-returns-2
 returns-2 c = let s = c .before .before .before .before .before .before .before .before .before .args .bytes .now in let i = c .before .before .before .before .before .before .before .before .before .args .start in
     found UTF8-4 s (getD s i 0 ∷ getD s (i + 1) 0 ∷ getD s (i + 2) 0 ∷ getD s (i + 3) 0 ∷ []) (drop (i + 4) s) i 3 _ (next-4 s i (omega arith)) refl (c .before .before .is-four .ensures (drop (i + 4) s)) _ (c .before .if2 .taken) (c .four .ensures)
 
--- src/read.rt:112:1
 returns-3 : tie.Need-returns-3
 returns-3 c = let s = c .before .before .before .before .before .before .before .before .args .bytes .now in let i = c .before .before .before .before .before .before .before .before .args .start in
     lost UTF8-4 s (getD s i 0 ∷ getD s (i + 1) 0 ∷ getD s (i + 2) 0 ∷ getD s (i + 3) 0 ∷ []) (drop (i + 4) s) i 3 _ (next-4 s i (omega arith)) refl (c .before .is-four .ensures (drop (i + 4) s)) (c .if2 .left)

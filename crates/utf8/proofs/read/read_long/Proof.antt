@@ -1,43 +1,30 @@
+use borrow.Author.Needs.{needs}
 use Rattle.utf8.proofs.Steps.{unannounced}
 use Rattle.utf8.specs.Rfc3629.{announced}
-use native.Mathlib.Omega.{arith}
-use borrow.Author.Needs.{needs}
 use Rattle.utf8.proofs.read.read_long.Statement.{statement}
 use Rattle.utf8.proofs.read.read_long.Tie as tie
-use Rattle.utf8.proofs.read.read_long.Reads as reads
-use Rattle.utf8.proofs.read.read_long.Lts as lts
-use Rattle.utf8.proofs.read.read_four.Reads as read-four-reads
-use Rattle.utf8.proofs.read.read_three.Reads as read-three-reads
-use Rattle.utf8.proofs.read.read_two.Reads as read-two-reads
 
--- src/read.rt:139:14
 read-two-requires : tie.Need-read-two-requires
 read-two-requires c κs = search needs
 
--- src/read.rt:140:14
 read-three-requires : tie.Need-read-three-requires
 read-three-requires c κs = search needs
 
--- src/read.rt:141:14
 read-four-requires : tie.Need-read-four-requires
 read-four-requires c κs = search needs
 
--- src/read.rt:134:1
 returns : tie.Need-returns
 unfolding announced
 returns c = rw (c .before .match .keys1) (c .read-two .ensures)
 
--- src/read.rt:134:1
 returns-2 : tie.Need-returns-2
 unfolding announced
 returns-2 c = rw (c .before .match .keys2) (c .read-three .ensures)
 
--- src/read.rt:134:1
 returns-3 : tie.Need-returns-3
 unfolding announced
 returns-3 c = rw (c .before .match .keys3) (c .read-four .ensures)
 
--- src/read.rt:134:1
 returns-4 : tie.Need-returns-4
 returns-4 c = let a = c .before .before .args in
     unannounced (a .bytes .now) (a .start) (a .ones) (c .before .before .pre .1) (c .match .rest .0 .0 .1) (c .match .rest .0 .1) (c .match .rest .1)

@@ -1,48 +1,35 @@
-use Rattle.utf8.proofs.Lead.{no-ones}
-use Rattle.utf8.proofs.Steps.{announces, ascii, cut-off}
-use Rattle.utf8.specs.Rfc3629.{UTF8-char}
 use mathlib.Core.Path.{refl, sym, _∙_}
 use native.Mathlib.Omega.{arith}
 use borrow.Author.Needs.{needs}
+use Rattle.utf8.proofs.Lead.{no-ones}
+use Rattle.utf8.proofs.Steps.{announces, ascii, cut-off}
+use Rattle.utf8.specs.Rfc3629.{UTF8-char}
 use Rattle.utf8.proofs.read.read_scalar.Statement.{statement}
 use Rattle.utf8.proofs.read.read_scalar.Tie as tie
-use Rattle.utf8.proofs.read.read_scalar.Reads as reads
-use Rattle.utf8.proofs.read.read_scalar.Lts as lts
-use Rattle.utf8.proofs.read.leading_ones.Reads as leading-ones-reads
-use Rattle.utf8.proofs.read.read_long.Reads as read-long-reads
-use Rattle.utf8.proofs.read.wide.Reads as wide-reads
 
--- src/read.rt:152:9
 returns : tie.Need-returns
 returns c = let s = c .before .before .args .bytes .now in let i = c .before .before .args .at .0 in cut-off 1 UTF8-char s i refl (omega arith)
 
--- src/read.rt:154:16
 shared-slice-read-lead : tie.Need-shared-slice-read-lead
 shared-slice-read-lead c = search needs
 
--- src/read.rt:155:9
 leading-ones-requires : tie.Need-leading-ones-requires
 leading-ones-requires c κs = search needs
 
--- src/read.rt:158:20
 wide-requires : tie.Need-wide-requires
 wide-requires c κs = search needs
 
--- src/read.rt:159:30
 add-t11 : tie.Need-add-t11
 add-t11 c = search needs
 
--- src/read.rt:157:9
 returns-2 : tie.Need-returns-2
 returns-2 c = let s = c .before .before .before .before .before .before .args .bytes .now in let i = c .before .before .before .before .before .before .args .at .0 in
     let b = no-ones _ (c .before .before .before .shared-slice-known2 .given i .fits) (sym (c .before .before .leading-ones .ensures) ∙ c .before .if2 .taken) in
     ascii s i _ (c .before .before .before .before .if1 .left) b (c .wide .ensures)
 
--- src/read.rt:162:5
 read-long-requires : tie.Need-read-long-requires
 read-long-requires c κs = search needs
 
--- src/read.rt:147:1
 returns-3 : tie.Need-returns-3
 returns-3 c = let s = c .before .before .before .before .before .before .args .bytes .now in let i = c .before .before .before .before .before .before .args .at .0 in
     c .read-long .ensures ∙ announces s i _ (c .before .before .before .before .if1 .left) (c .before .before .before .shared-slice-known2 .given i .fits) (c .before .before .leading-ones .ensures)

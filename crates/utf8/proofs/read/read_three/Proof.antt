@@ -1,64 +1,48 @@
-use Rattle.utf8.proofs.Steps.{found, lost, cut-off, next-3}
-use Rattle.utf8.specs.Rfc3629.{UTF8-3}
-use lib.ListN.{getD, drop}
-use Prim.Native.Nat.{_+_}
-use mathlib.Core.Path.{refl}
 use mathlib.Core.List.{[], _∷_}
+use mathlib.Core.Path.{refl}
+use Prim.Native.Nat.{_+_}
 use native.Mathlib.Omega.{arith}
 use borrow.Author.Needs.{needs}
+use lib.ListN.{getD, drop}
+use Rattle.utf8.proofs.Steps.{found, lost, cut-off, next-3}
+use Rattle.utf8.specs.Rfc3629.{UTF8-3}
 use Rattle.utf8.proofs.read.read_three.Statement.{statement}
 use Rattle.utf8.proofs.read.read_three.Tie as tie
-use Rattle.utf8.proofs.read.read_three.Reads as reads
-use Rattle.utf8.proofs.read.read_three.Lts as lts
-use Rattle.utf8.proofs.read.is_three.Reads as is-three-reads
-use Rattle.utf8.proofs.read.three.Reads as three-reads
 
--- src/read.rt:96:8
 sub-if1 : tie.Need-sub-if1
 sub-if1 c = search needs
 
--- src/read.rt:97:9
 returns : tie.Need-returns
 returns c = let s = c .before .before .args .bytes .now in let i = c .before .before .args .start in cut-off 3 UTF8-3 s i refl (c .if1 .taken)
 
--- src/read.rt:99:13
 shared-slice-read-a : tie.Need-shared-slice-read-a
 shared-slice-read-a c = search needs
 
--- src/read.rt:100:19
 add-b : tie.Need-add-b
 add-b c = search needs
 
--- src/read.rt:100:13
 shared-slice-read-b : tie.Need-shared-slice-read-b
 shared-slice-read-b c = search needs
 
--- src/read.rt:101:19
 add-c : tie.Need-add-c
 add-c c = search needs
 
--- src/read.rt:101:13
 shared-slice-read-c : tie.Need-shared-slice-read-c
 shared-slice-read-c c = search needs
 
--- src/read.rt:102:8
 is-three-requires : tie.Need-is-three-requires
 is-three-requires c κs = search needs
 
--- src/read.rt:104:20
 three-requires : tie.Need-three-requires
 three-requires c κs = search needs
 
--- src/read.rt:105:30
 add-t17 : tie.Need-add-t17
 add-t17 c = search needs
 
--- src/read.rt:92:1
 returns-2 : tie.Need-returns-2
 returns-2 c = let s = c .before .before .before .before .before .before .before .before .args .bytes .now in let i = c .before .before .before .before .before .before .before .before .args .start in
     found UTF8-3 s (getD s i 0 ∷ getD s (i + 1) 0 ∷ getD s (i + 2) 0 ∷ []) (drop (i + 3) s) i 2 _ (next-3 s i (omega arith)) refl (c .before .before .is-three .ensures (drop (i + 3) s)) _ (c .before .if2 .taken) (c .three .ensures)
 
--- src/read.rt:92:1
 returns-3 : tie.Need-returns-3
 returns-3 c = let s = c .before .before .before .before .before .before .before .args .bytes .now in let i = c .before .before .before .before .before .before .before .args .start in
     lost UTF8-3 s (getD s i 0 ∷ getD s (i + 1) 0 ∷ getD s (i + 2) 0 ∷ []) (drop (i + 3) s) i 2 _ (next-3 s i (omega arith)) refl (c .before .is-three .ensures (drop (i + 3) s)) (c .if2 .left)

@@ -1,50 +1,37 @@
+use mathlib.Core.Path.{sym, ap, _∙_}
+use borrow.Author.Needs.{needs}
 use Rattle.utf8.proofs.Writings.{counted-done, encode-bad, encode-full, encode-all}
 use Rattle.utf8.specs.Answers.{paperOctetCount}
-use mathlib.Core.Path.{sym, ap, _∙_}
-use native.Mathlib.Omega.{arith}
-use borrow.Author.Needs.{needs}
 use Rattle.utf8.proofs.write.encode.Statement.{statement}
 use Rattle.utf8.proofs.write.encode.Tie as tie
-use Rattle.utf8.proofs.write.encode.Reads as reads
-use Rattle.utf8.proofs.write.encode.Lts as lts
-use Rattle.utf8.proofs.write.count_octets.Reads as count-octets-reads
-use Rattle.utf8.proofs.write.fill_octets.Reads as fill-octets-reads
 
--- src/write.rt:129:9
 count-octets-requires : tie.Need-count-octets-requires
 count-octets-requires c κs = search needs
 
--- src/write.rt:131:32
 enum-told : tie.Need-enum-told
 enum-told c = search needs
 
--- src/write.rt:132:28
 enum-known-counted : tie.Need-enum-known-counted
 enum-known-counted c = search needs
 
--- src/write.rt:134:17
 returns : tie.Need-returns
 returns c = let a = c .before .before .before .before .before .before .before .args in let g = c .before .before .counted .given in
     let e = ap paperOctetCount (sym (g .1)) ∙ c .before .before .before .before .count-octets .ensures in
     encode-full (a .scalars .now) (a .out .now) (g .0 .0) e (c .if1 .taken)
 
--- src/write.rt:136:13
 fill-octets-requires : tie.Need-fill-octets-requires
 fill-octets-requires c κs = let a = c .before .before .before .before .before .before .before .before .args in let g = c .before .before .before .counted .given in
     let e = ap paperOctetCount (sym (g .1)) ∙ c .before .before .before .before .before .count-octets .ensures in
     let d = counted-done (a .scalars .now) (g .0 .0) e in
     (d .0, rw (d .1) (c .before .if1 .left))
 
--- src/write.rt:126:1
 returns-2 : tie.Need-returns-2
 returns-2 c = let a = c .before .before .before .before .before .args in
     encode-bad (a .scalars .now) (a .out .now) (ap paperOctetCount (sym (c .enum-told .given .1)) ∙ c .before .before .count-octets .ensures)
 
--- src/write.rt:126:1
 same-length : tie.Need-same-length
 same-length c = search needs
 
--- src/write.rt:126:1
 returns-3 : tie.Need-returns-3
 returns-3 c = let a = c .before .before .before .before .before .before .before .before .before .before .before .args in let g = c .before .before .before .before .before .before .counted .given in
     let e = ap paperOctetCount (sym (g .1)) ∙ c .before .before .before .before .before .before .before .before .count-octets .ensures in

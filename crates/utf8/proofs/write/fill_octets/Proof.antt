@@ -1,18 +1,14 @@
-use Rattle.utf8.proofs.Writings.{fill-room, fill-again, fill-all}
-use Rattle.utf8.specs.Reading.{allScalar, writing}
-use lib.ListN.{length, take, drop}
-use Prim.Native.Nat.{_≤_, _-_}
+use mathlib.Core.Bool.{true}
 use mathlib.Core.List.{_++_}
 use mathlib.Core.Path.{_≡_, refl}
-use mathlib.Core.Bool.{true}
+use Prim.Native.Nat.{_≤_, _-_}
 use native.Mathlib.Omega.{arith}
 use borrow.Author.Needs.{needs}
+use lib.ListN.{length, take, drop}
+use Rattle.utf8.proofs.Writings.{fill-room, fill-again, fill-all}
+use Rattle.utf8.specs.Reading.{allScalar, writing}
 use Rattle.utf8.proofs.write.fill_octets.Statement.{statement}
 use Rattle.utf8.proofs.write.fill_octets.Tie as tie
-use Rattle.utf8.proofs.write.fill_octets.Reads as reads
-use Rattle.utf8.proofs.write.fill_octets.Lts as lts
-use Rattle.utf8.proofs.write.put.Reads as put-reads
-use Rattle.utf8.proofs.write.sequence_of.Reads as sequence-of-reads
 
 abbrev Inv-loop : tie.InvT-loop
 Inv-loop scalars out₀ at₀ i₀ out at i = (i ≤ length scalars) × (length out ≡ length out₀) × (at .0 ≤ length (writing scalars)) × (allScalar (drop i scalars) ≡ true) × (drop (at .0) (writing scalars) ≡ writing (drop i scalars)) × (out ≡ take (at .0) (writing scalars) ++ drop (at .0) out₀)
@@ -20,37 +16,29 @@ Inv-loop scalars out₀ at₀ i₀ out at i = (i ≤ length scalars) × (length 
 abbrev μ-loop : tie.MeasureT-loop
 μ-loop scalars out₀ at₀ i₀ out at i = length scalars - i
 
--- src/write.rt:119:5
 loop-holds : tie.Need-loop-holds Inv-loop μ-loop
 loop-holds c = (omega arith, refl, omega arith, c .before .before .pre .0, refl, refl)
 
--- src/write.rt:120:39
 mul-sequence-of : tie.Need-mul-sequence-of Inv-loop μ-loop
 mul-sequence-of c = search needs
 
--- src/write.rt:120:39
 shared-slice-read-sequence-of : tie.Need-shared-slice-read-sequence-of Inv-loop μ-loop
 shared-slice-read-sequence-of c = search needs
 
--- src/write.rt:120:27
 sequence-of-requires : tie.Need-sequence-of-requires Inv-loop μ-loop
 sequence-of-requires c κs = search needs
 
--- src/write.rt:120:9
 put-requires : tie.Need-put-requires Inv-loop μ-loop
 put-requires c κs = let l = c .before .before .before .before .loop in let s = c .before .before .before .before .before .before .before .args .scalars .now in
     let k = fill-room s (c .before .before .before .before .before .before .before .args .out .now) (l .out) (l .i) (l .at .0) _ (c .before .before .before .loop-test .taken) (c .sequence-of .ensures) (l .inv .3) (l .inv .4) (c .before .before .before .before .before .before .before .pre .1) in
     omega arith
 
--- src/write.rt:121:9
 add-i : tie.Need-add-i Inv-loop μ-loop
 add-i c = search needs
 
--- src/write.rt:119:5
 loop-less : tie.Need-loop-less Inv-loop μ-loop
 loop-less c = search needs
 
--- src/write.rt:119:5
 loop-again : tie.Need-loop-again Inv-loop μ-loop
 loop-again c = let l = c .before .before .before .before .before .before .before .loop in let s = c .before .before .before .before .before .before .before .before .before .before .args .scalars .now in
     let t = fill-again s (c .before .before .before .before .before .before .before .before .before .before .args .out .now) (l .out) (l .i) (l .at .0) _ (c .before .before .before .before .before .before .loop-test .taken) (c .before .before .before .sequence-of .ensures) (l .inv .3) (l .inv .4) (c .before .before .before .before .before .before .before .before .before .before .pre .1) (l .inv .5) in
@@ -58,11 +46,9 @@ loop-again c = let l = c .before .before .before .before .before .before .before
     let p = c .before .before .put .ensures in
     (omega arith, omega arith, rw (p .1) k, t .0, rw (p .1) (t .1), rw (p .0, p .1) (t .2))
 
--- src/write.rt:113:1
 same-length : tie.Need-same-length Inv-loop μ-loop
 same-length c = search needs
 
--- src/write.rt:113:1
 returns : tie.Need-returns Inv-loop μ-loop
 returns c = let l = c .before .loop in fill-all _ _ _ (l .i) (l .at .0) (c .loop-test .left) (l .inv .4) (l .inv .2) (l .inv .5)
 

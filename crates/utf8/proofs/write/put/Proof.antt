@@ -1,147 +1,111 @@
-use lib.ListN.{length-set}
-use native.Mathlib.Numerals.{add-one, add-two, add-three}
-use native.Mathlib.Nat.{add-zero}
 use mathlib.Core.Path.{refl}
+use native.Mathlib.Nat.{add-zero}
+use native.Mathlib.Numerals.{add-one, add-two, add-three}
 use native.Mathlib.Omega.{arith}
 use borrow.Author.Needs.{needs}
+use lib.ListN.{length-set}
 use Rattle.utf8.proofs.write.put.Statement.{statement}
 use Rattle.utf8.proofs.write.put.Tie as tie
-use Rattle.utf8.proofs.write.put.Reads as reads
-use Rattle.utf8.proofs.write.put.Lts as lts
 
--- src/write.rt:86:23
 enum-known-sequence : tie.Need-enum-known-sequence
 enum-known-sequence c = search needs
 
--- src/write.rt:87:13
 slice-write-out : tie.Need-slice-write-out
 slice-write-out c = let h = rw (c .before .sequence .given .1) at (c .before .before .before .pre) in omega arith
 
--- src/write.rt:88:24
 add-t17 : tie.Need-add-t17
 add-t17 c = let h = rw (c .before .sequence .given .1) at (c .before .before .before .pre) in omega arith
 
--- src/write.rt:90:23
 enum-known-sequence-2 : tie.Need-enum-known-sequence-2
 enum-known-sequence-2 c = search needs
 
--- src/write.rt:91:13
 slice-write-out-2 : tie.Need-slice-write-out-2
 slice-write-out-2 c = let h = rw (c .before .sequence2 .given .1) at (c .before .before .before .pre) in omega arith
 
--- src/write.rt:92:17
 add-out : tie.Need-add-out
 add-out c = let h = rw (c .before .sequence2 .given .1) at (c .before .before .before .pre) in omega arith
 
--- src/write.rt:92:13
 slice-write-out-3 : tie.Need-slice-write-out-3
 slice-write-out-3 c = let h = rw (c .before .sequence2 .given .1) at (c .before .before .before .pre) in simp length-set (omega arith)
 
--- src/write.rt:93:24
 add-t19 : tie.Need-add-t19
 add-t19 c = let h = rw (c .before .sequence2 .given .1) at (c .before .before .before .pre) in omega arith
 
--- src/write.rt:95:25
 enum-known-sequence-3 : tie.Need-enum-known-sequence-3
 enum-known-sequence-3 c = search needs
 
--- src/write.rt:96:13
 slice-write-out-4 : tie.Need-slice-write-out-4
 slice-write-out-4 c = let h = rw (c .before .sequence3 .given .1) at (c .before .before .before .pre) in omega arith
 
--- src/write.rt:97:17
 add-out-2 : tie.Need-add-out-2
 add-out-2 c = let h = rw (c .before .sequence3 .given .1) at (c .before .before .before .pre) in omega arith
 
--- src/write.rt:97:13
 slice-write-out-5 : tie.Need-slice-write-out-5
 slice-write-out-5 c = let h = rw (c .before .sequence3 .given .1) at (c .before .before .before .pre) in simp length-set (omega arith)
 
--- src/write.rt:98:17
 add-out-3 : tie.Need-add-out-3
 add-out-3 c = let h = rw (c .before .sequence3 .given .1) at (c .before .before .before .pre) in omega arith
 
--- src/write.rt:98:13
 slice-write-out-6 : tie.Need-slice-write-out-6
 slice-write-out-6 c = let h = rw (c .before .sequence3 .given .1) at (c .before .before .before .pre) in simp length-set (omega arith)
 
--- src/write.rt:99:24
 add-t22 : tie.Need-add-t22
 add-t22 c = let h = rw (c .before .sequence3 .given .1) at (c .before .before .before .pre) in omega arith
 
--- src/write.rt:101:24
 enum-known-sequence-4 : tie.Need-enum-known-sequence-4
 enum-known-sequence-4 c = search needs
 
--- src/write.rt:102:13
 slice-write-out-7 : tie.Need-slice-write-out-7
 slice-write-out-7 c = let h = rw (c .before .sequence4 .given .1) at (c .before .before .before .pre) in omega arith
 
--- src/write.rt:103:17
 add-out-4 : tie.Need-add-out-4
 add-out-4 c = let h = rw (c .before .sequence4 .given .1) at (c .before .before .before .pre) in omega arith
 
--- src/write.rt:103:13
 slice-write-out-8 : tie.Need-slice-write-out-8
 slice-write-out-8 c = let h = rw (c .before .sequence4 .given .1) at (c .before .before .before .pre) in simp length-set (omega arith)
 
--- src/write.rt:104:17
 add-out-5 : tie.Need-add-out-5
 add-out-5 c = let h = rw (c .before .sequence4 .given .1) at (c .before .before .before .pre) in omega arith
 
--- src/write.rt:104:13
 slice-write-out-9 : tie.Need-slice-write-out-9
 slice-write-out-9 c = let h = rw (c .before .sequence4 .given .1) at (c .before .before .before .pre) in simp length-set (omega arith)
 
--- src/write.rt:105:17
 add-out-6 : tie.Need-add-out-6
 add-out-6 c = let h = rw (c .before .sequence4 .given .1) at (c .before .before .before .pre) in omega arith
 
--- src/write.rt:105:13
 slice-write-out-10 : tie.Need-slice-write-out-10
 slice-write-out-10 c = let h = rw (c .before .sequence4 .given .1) at (c .before .before .before .pre) in simp length-set (omega arith)
 
--- src/write.rt:106:24
 add-t26 : tie.Need-add-t26
 add-t26 c = let h = rw (c .before .sequence4 .given .1) at (c .before .before .before .pre) in omega arith
 
--- src/write.rt:108:30
 enum-told : tie.Need-enum-told
 enum-told c = search needs
 
--- src/write.rt:80:1
 same-length : tie.Need-same-length
 same-length c = simp length-set
 
--- src/write.rt:80:1
 returns : tie.Need-returns
 returns c = rw (c .before .sequence .given .1) (refl, refl)
 
--- src/write.rt:80:1
 same-length-2 : tie.Need-same-length-2
 same-length-2 c = simp length-set
 
--- src/write.rt:80:1
 returns-2 : tie.Need-returns-2
 returns-2 c = rw (c .before .sequence2 .given .1, add-one) (refl, refl)
 
--- src/write.rt:80:1
 same-length-3 : tie.Need-same-length-3
 same-length-3 c = simp length-set
 
--- src/write.rt:80:1
 returns-3 : tie.Need-returns-3
 returns-3 c = rw (c .before .sequence3 .given .1, add-one, add-two) (refl, refl)
 
--- src/write.rt:80:1
 same-length-4 : tie.Need-same-length-4
 same-length-4 c = simp length-set
 
--- src/write.rt:80:1
 returns-4 : tie.Need-returns-4
 returns-4 c = rw (c .before .sequence4 .given .1, add-one, add-two, add-three) (refl, refl)
 
--- src/write.rt:80:1
 returns-5 : tie.Need-returns-5
 returns-5 c = rw (c .enum-told .given .1, add-zero) (refl, refl)
 

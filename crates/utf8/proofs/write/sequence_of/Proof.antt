@@ -1,90 +1,67 @@
-use Rattle.utf8.proofs.Numbers.{scalar-low, scalar-le, octets-1, octets-2, octets-3, octets-4, sequence-good, sequence-bad}
-use borrow.Author.Tests.{not-false}
 use mathlib.Core.Path.{sym, _∙_}
 use native.Mathlib.Omega.{arith}
 use borrow.Author.Needs.{needs}
+use borrow.Author.Tests.{not-false}
+use Rattle.utf8.proofs.Numbers.{scalar-low, scalar-le, octets-1, octets-2, octets-3, octets-4, sequence-good, sequence-bad}
 use Rattle.utf8.proofs.write.sequence_of.Statement.{statement}
 use Rattle.utf8.proofs.write.sequence_of.Tie as tie
-use Rattle.utf8.proofs.write.sequence_of.Reads as reads
-use Rattle.utf8.proofs.write.sequence_of.Lts as lts
-use Rattle.utf8.proofs.write.is_scalar.Reads as is-scalar-reads
-use Rattle.utf8.proofs.write.tail.Reads as tail-reads
 
--- src/write.rt:35:30
 cast-t3 : tie.Need-cast-t3
 cast-t3 c = search needs
 
--- src/write.rt:35:9
 returns : tie.Need-returns
 returns c = let v = c .before .args .value in sequence-good v _ (scalar-low v (omega arith)) (octets-1 v (c .if1 .taken))
 
--- src/write.rt:37:9
 is-scalar-requires : tie.Need-is-scalar-requires
 is-scalar-requires c κs = search needs
 
--- src/write.rt:38:9
 returns-2 : tie.Need-returns-2
 returns-2 c = sequence-bad (c .before .before .before .args .value) _ (c .before .is-scalar .ensures) (c .if2 .taken)
 
--- src/write.rt:41:31
 add-t6 : tie.Need-add-t6
 add-t6 c = search needs
 
--- src/write.rt:41:30
 cast-t7 : tie.Need-cast-t7
 cast-t7 c = search needs
 
--- src/write.rt:41:64
 tail-requires : tie.Need-tail-requires
 tail-requires c κs = search needs
 
--- src/write.rt:41:9
 returns-3 : tie.Need-returns-3
 returns-3 c = let v = c .before .before .before .before .before .args .value in
     sequence-good v _ (sym (c .before .before .before .is-scalar .ensures) ∙ not-false _ (c .before .before .if2 .left)) (octets-2 v (c .before .before .before .before .if1 .left) (c .before .if3 .taken) ∙ rw (c .tail .ensures))
 
--- src/write.rt:44:33
 add-t11 : tie.Need-add-t11
 add-t11 c = search needs
 
--- src/write.rt:44:32
 cast-t12 : tie.Need-cast-t12
 cast-t12 c = search needs
 
--- src/write.rt:44:71
 tail-requires-2 : tie.Need-tail-requires-2
 tail-requires-2 c κs = search needs
 
--- src/write.rt:44:89
 tail-requires-3 : tie.Need-tail-requires-3
 tail-requires-3 c κs = search needs
 
--- src/write.rt:44:9
 returns-4 : tie.Need-returns-4
 returns-4 c = let v = c .before .before .before .before .before .before .before .args .value in
     sequence-good v _ (sym (c .before .before .before .before .before .is-scalar .ensures) ∙ not-false _ (c .before .before .before .before .if2 .left)) (octets-3 v (c .before .before .before .if3 .left) (c .before .before .if4 .taken) ∙ rw (c .before .tail2 .ensures, c .tail3 .ensures))
 
--- src/write.rt:46:21
 add-t19 : tie.Need-add-t19
 add-t19 c = search needs
 
--- src/write.rt:46:20
 cast-t20 : tie.Need-cast-t20
 cast-t20 c = omega (arith, scalar-le (c .before .before .before .before .before .args .value) (sym (c .before .before .before .is-scalar .ensures) ∙ not-false _ (c .before .before .if2 .left)))
 
--- src/write.rt:46:64
 tail-requires-4 : tie.Need-tail-requires-4
 tail-requires-4 c κs = search needs
 
--- src/write.rt:46:87
 tail-requires-5 : tie.Need-tail-requires-5
 tail-requires-5 c κs = search needs
 
--- src/write.rt:46:105
 tail-requires-6 : tie.Need-tail-requires-6
 tail-requires-6 c κs = search needs
 
--- src/write.rt:31:1
 returns-5 : tie.Need-returns-5
 returns-5 c = let v = c .before .before .before .before .before .before .before .before .args .value in
     sequence-good v _ (sym (c .before .before .before .before .before .before .is-scalar .ensures) ∙ not-false _ (c .before .before .before .before .before .if2 .left)) (octets-4 v (c .before .before .before .if4 .left) ∙ rw (c .before .before .tail4 .ensures, c .before .tail5 .ensures, c .tail6 .ensures))
