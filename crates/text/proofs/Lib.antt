@@ -1,0 +1,5 @@
+pub mod Lines
+pub mod Places
+pub mod Scans
+pub mod Boxes
+pub mod Texts

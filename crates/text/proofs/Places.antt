@@ -1,0 +1,256 @@
+-- Laws between places and texts: the end of what stands before a place is the place.
+use mathlib.Core.Path.{_≡_, refl, sym, ap, _∙_}
+use mathlib.Core.Bool.{Bool, true, false}
+use mathlib.Core.List.{List, [], _∷_, _++_}
+use Prim.Native.Nat.{ℕ, zero, suc, _+_, _-_, _≤_, _<_, min}
+use native.Mathlib.Nat.{zero-add, add-assoc}
+use native.Mathlib.Omega.{arith}
+use borrow.Author.Tests.{ne-eqb}
+use lib.ListN.{length, take, drop, take-append-drop}
+use Rattle.text.specs.Rows.{rowCount, lastRow, rowLen, rowStart, clamp, offset, endOf, at, _⊕_}
+use Rattle.text.specs.declared.Position.{Position}
+use Rattle.text.proofs.Lines.{count-lf, count-other, count-none, count-pos, start-lf, start-other, start-first, start-none, len-lf, len-lf-next, len-other, len-other-next, len-none}
+
+-- ---- adding positions
+
+add-same : (a b c : ℕ) → at a b ⊕ at 0 c ≡ at a (b + c)
+unfolding _⊕_
+add-same a b c = refl
+
+add-next : (a b r c : ℕ) → 0 < r → at a b ⊕ at r c ≡ at (a + r) c
+unfolding _⊕_
+add-next a b r c h = rw (ne-eqb r 0 (omega arith))
+
+origin : (r c : ℕ) → at 0 0 ⊕ at r c ≡ at r c
+origin zero c = add-same 0 0 c ∙ rw zero-add
+origin (suc r) c = add-next 0 0 (suc r) c (omega arith) ∙ rw zero-add
+
+pub add-origin : (p : Position) → at 0 0 ⊕ p ≡ p
+add-origin p = origin (p .row .0) (p .col .0)
+
+assoc : (a b r c s d : ℕ) → (at a b ⊕ at r c) ⊕ at s d ≡ at a b ⊕ (at r c ⊕ at s d)
+assoc a b zero c zero d = rw (add-same a b c, add-same a (b + c) d, add-same 0 c d, add-same a b (c + d), add-assoc)
+assoc a b (suc r) c zero d =
+    rw (add-next a b (suc r) c (omega arith), add-same (a + suc r) c d, add-same (suc r) c d, add-next a b (suc r) (c + d) (omega arith))
+assoc a b zero c (suc s) d =
+    rw (add-same a b c, add-next a (b + c) (suc s) d (omega arith), add-next 0 c (suc s) d (omega arith), zero-add, add-next a b (suc s) d (omega arith))
+assoc a b (suc r) c (suc s) d =
+    rw (add-next a b (suc r) c (omega arith), add-next (a + suc r) c (suc s) d (omega arith), add-next (suc r) c (suc s) d (omega arith), add-next a b (suc r + suc s) d (omega arith), add-assoc)
+
+-- where texts end adds up, in any grouping
+pub add-positions : (p q r : Position) → (p ⊕ q) ⊕ r ≡ p ⊕ (q ⊕ r)
+add-positions p q r = assoc (p .row .0) (p .col .0) (q .row .0) (q .col .0) (r .row .0) (r .col .0)
+
+-- one element more before a text: an LF, or another
+after-lf : (l c : ℕ) → at 1 0 ⊕ at l c ≡ at (suc l) c
+after-lf zero c = add-same 1 0 c ∙ rw zero-add
+after-lf (suc l) c = let e : 1 + suc l ≡ suc (suc l) = omega arith in add-next 1 0 (suc l) c (omega arith) ∙ rw e
+
+after-first : (c : ℕ) → at 0 1 ⊕ at 0 c ≡ at 0 (suc c)
+after-first c = let e : 1 + c ≡ suc c = omega arith in add-same 0 1 c ∙ rw e
+
+after-later : (l c : ℕ) → at 0 1 ⊕ at (suc l) c ≡ at (suc l) c
+after-later l c = add-next 0 1 (suc l) c (omega arith) ∙ rw zero-add
+
+module _ {A : Type 0} (lf : A → Bool) where
+  pub last-lf : (x : A) (t : List A) → lf x ≡ true → lastRow lf (x ∷ t) ≡ suc (lastRow lf t)
+  unfolding lastRow
+  last-lf x t e = let k = count-lf lf x t e in let h = count-pos lf t in omega arith
+
+  pub last-other : (x : A) (t : List A) → lf x ≡ false → lastRow lf (x ∷ t) ≡ lastRow lf t
+  unfolding lastRow
+  last-other x t e = ap (λ (n : ℕ). n - 1) (count-other lf x t e)
+
+  pub last-none : lastRow lf [] ≡ 0
+  unfolding lastRow
+  last-none = rw (count-none lf)
+
+  -- the end of a text, from its first element
+  end-none : endOf lf [] ≡ at 0 0
+  unfolding endOf
+  end-none = rw (last-none, len-none lf)
+
+  end-lf : (x : A) (t : List A) → lf x ≡ true → endOf lf (x ∷ t) ≡ at 1 0 ⊕ endOf lf t
+  unfolding endOf
+  end-lf x t e = rw (last-lf x t e, len-lf-next lf x t (lastRow lf t) e, after-lf (lastRow lf t) (rowLen lf t (lastRow lf t)))
+
+  end-other : (x : A) (t : List A) → lf x ≡ false → endOf lf (x ∷ t) ≡ at 0 1 ⊕ endOf lf t
+  unfolding endOf
+  end-other x t e = rw (last-other x t e) (go (lastRow lf t))
+    where
+      go : (l : ℕ) → at l (rowLen lf (x ∷ t) l) ≡ at 0 1 ⊕ at l (rowLen lf t l)
+      go zero = rw (len-other lf x t e, after-first (rowLen lf t 0))
+      go (suc l) = rw (len-other-next lf x t l e, after-later l (rowLen lf t (suc l)))
+
+  -- the end of two texts, one after the other
+  pub end-append : (s u : List A) → endOf lf (s ++ u) ≡ endOf lf s ⊕ endOf lf u
+  end-append [] u = rw (end-none, add-origin (endOf lf u))
+  end-append (x ∷ s) u = go (lf x) refl (end-append s u)
+    where
+      go : (b : Bool) → lf x ≡ b → endOf lf (s ++ u) ≡ endOf lf s ⊕ endOf lf u → endOf lf (x ∷ (s ++ u)) ≡ endOf lf (x ∷ s) ⊕ endOf lf u
+      go true e ih = rw (end-lf x (s ++ u) e, end-lf x s e, ih, add-positions (at 1 0) (endOf lf s) (endOf lf u))
+      go false e ih = rw (end-other x (s ++ u) e, end-other x s e, ih, add-positions (at 0 1) (endOf lf s) (endOf lf u))
+
+  -- ---- the end of a text, as a place in a longer one
+
+  abbrev Within : List A → List A → Type 0
+  Within s u =
+      (lastRow lf s ≤ lastRow lf (s ++ u)) × (rowLen lf s (lastRow lf s) ≤ rowLen lf (s ++ u) (lastRow lf s))
+      × (rowStart lf (s ++ u) (lastRow lf s) + rowLen lf s (lastRow lf s) ≡ length s)
+
+  within-text : (s u : List A) → Within s u
+  within-text [] u = rw (last-none, len-none lf, start-first lf u) (omega arith)
+  within-text (x ∷ s) u = go (lf x) refl (lastRow lf s) refl (within-text s u)
+    where
+      go : (b : Bool) → lf x ≡ b → (l : ℕ) → lastRow lf s ≡ l → Within s u → Within (x ∷ s) u
+      go true e l k w =
+          rw (last-lf x s e, last-lf x (s ++ u) e, len-lf-next lf x s (lastRow lf s) e, len-lf-next lf x (s ++ u) (lastRow lf s) e, start-lf lf x (s ++ u) (lastRow lf s) e)
+          (omega arith, w .1, omega arith)
+      go false e zero k w =
+          rw (last-other x s e, last-other x (s ++ u) e, k, len-other lf x s e, len-other lf x (s ++ u) e, start-first lf (x ∷ (s ++ u)))
+          (let v = rw (k, start-first lf (s ++ u)) at w in (omega arith, omega arith, omega arith))
+      go false e (suc l) k w =
+          rw (last-other x s e, last-other x (s ++ u) e, k, len-other-next lf x s l e, len-other-next lf x (s ++ u) l e, start-other lf x (s ++ u) l e)
+          (let v = rw k at w in (omega arith, v .1, omega arith))
+
+  pub clamp-end : (s u : List A) → clamp lf (s ++ u) (endOf lf s) ≡ endOf lf s
+  unfolding clamp endOf
+  clamp-end s u =
+      let w = within-text s u in
+      let m : min (lastRow lf s) (lastRow lf (s ++ u)) ≡ lastRow lf s = omega arith in
+      let n : min (rowLen lf s (lastRow lf s)) (rowLen lf (s ++ u) (lastRow lf s)) ≡ rowLen lf s (lastRow lf s) = omega arith in
+      rw (m, n)
+
+  pub offset-end : (s u : List A) → offset lf (s ++ u) (endOf lf s) ≡ length s
+  unfolding offset
+  offset-end s u = rw (clamp-end s u) (unfold endOf in (within-text s u .2))
+
+  -- ---- a place, as the end of what stands before it
+
+  -- p in x ∷ t, when it is not before x, is q in t
+  abbrev Moved : A → List A → Position → Position → Position → Type 0
+  Moved x t unit p q = (clamp lf (x ∷ t) p ≡ unit ⊕ clamp lf t q) × (offset lf (x ∷ t) p ≡ suc (offset lf t q))
+
+  moved-lf : (x : A) (t : List A) (r c : ℕ) → lf x ≡ true → Moved x t (at 1 0) (at (suc r) c) (at r c)
+  unfolding clamp offset
+  moved-lf x t r c e =
+      let m : min (suc r) (suc (lastRow lf t)) ≡ suc (min r (lastRow lf t)) = omega arith in
+      rw (last-lf x t e, m, len-lf-next lf x t (min r (lastRow lf t)) e, start-lf lf x t (min r (lastRow lf t)) e)
+      (sym (after-lf (min r (lastRow lf t)) (min c (rowLen lf t (min r (lastRow lf t))))), omega arith)
+
+  moved-later : (x : A) (t : List A) (r c k : ℕ) → lf x ≡ false → min r (lastRow lf t) ≡ suc k → Moved x t (at 0 1) (at r c) (at r c)
+  unfolding clamp offset
+  moved-later x t r c k e m =
+      rw (last-other x t e, m, len-other-next lf x t k e, start-other lf x t k e) (sym (after-later k (min c (rowLen lf t (suc k)))), omega arith)
+
+  moved-first : (x : A) (t : List A) (r c : ℕ) → lf x ≡ false → min r (lastRow lf t) ≡ 0 → Moved x t (at 0 1) (at r (suc c)) (at r c)
+  unfolding clamp offset
+  moved-first x t r c e m =
+      let n : min (suc c) (suc (rowLen lf t 0)) ≡ suc (min c (rowLen lf t 0)) = omega arith in
+      rw (last-other x t e, m, len-other lf x t e, n, start-first lf (x ∷ t), start-first lf t) (sym (after-first (min c (rowLen lf t 0))), omega arith)
+
+  -- p is before x
+  abbrev Front : List A → Position → Type 0
+  Front t p = (clamp lf t p ≡ at 0 0) × (offset lf t p ≡ 0)
+
+  front-none : (r c : ℕ) → Front [] (at r c)
+  unfolding clamp offset
+  front-none r c =
+      let m : min r 0 ≡ 0 = omega arith in
+      let n : min c 0 ≡ 0 = omega arith in
+      rw (last-none, m, len-none lf, n, start-none lf) (refl, omega arith)
+
+  front-lf : (x : A) (t : List A) (c : ℕ) → lf x ≡ true → Front (x ∷ t) (at 0 c)
+  unfolding clamp offset
+  front-lf x t c e =
+      let m : min 0 (lastRow lf (x ∷ t)) ≡ 0 = omega arith in
+      let n : min c 0 ≡ 0 = omega arith in
+      rw (m, len-lf lf x t e, n, start-first lf (x ∷ t)) (refl, omega arith)
+
+  front-first : (x : A) (t : List A) (r : ℕ) → lf x ≡ false → min r (lastRow lf t) ≡ 0 → Front (x ∷ t) (at r 0)
+  unfolding clamp offset
+  front-first x t r e m =
+      let n : min 0 (rowLen lf (x ∷ t) 0) ≡ 0 = omega arith in
+      rw (last-other x t e, m, n, start-first lf (x ∷ t)) (refl, omega arith)
+
+  At : List A → Position → Type 0
+  At t p = endOf lf (take (offset lf t p) t) ≡ clamp lf t p
+
+  at-front : (t : List A) (p : Position) → Front t p → At t p
+  unfolding At
+  at-front t p f = rw (f .0, f .1, end-none)
+
+  at-moved : (x : A) (t : List A) (unit p q : Position) → ((s : List A) → endOf lf (x ∷ s) ≡ unit ⊕ endOf lf s) → Moved x t unit p q → At t q → At (x ∷ t) p
+  unfolding At
+  at-moved x t unit p q u m h = rw (m .0, m .1, u (take (offset lf t q) t), h)
+
+  end-at : (t : List A) (r c : ℕ) → At t (at r c)
+  end-at [] r c = at-front [] (at r c) (front-none r c)
+  end-at (x ∷ t) r c = go (lf x) refl r c (λ r c. end-at t r c)
+    where
+      there : (r c k : ℕ) → lf x ≡ false → min r (lastRow lf t) ≡ k → ((r c : ℕ) → At t (at r c)) → At (x ∷ t) (at r c)
+      there r zero zero e m ih = at-front (x ∷ t) (at r 0) (front-first x t r e m)
+      there r (suc c) zero e m ih = at-moved x t (at 0 1) (at r (suc c)) (at r c) (λ s. end-other x s e) (moved-first x t r c e m) (ih r c)
+      there r c (suc k) e m ih = at-moved x t (at 0 1) (at r c) (at r c) (λ s. end-other x s e) (moved-later x t r c k e m) (ih r c)
+
+      go : (b : Bool) → lf x ≡ b → (r c : ℕ) → ((r c : ℕ) → At t (at r c)) → At (x ∷ t) (at r c)
+      go true e zero c ih = at-front (x ∷ t) (at 0 c) (front-lf x t c e)
+      go true e (suc r) c ih = at-moved x t (at 1 0) (at (suc r) c) (at r c) (λ s. end-lf x s e) (moved-lf x t r c e) (ih r c)
+      go false e r c ih = there r c (min r (lastRow lf t)) e refl ih
+
+  pub end-take : (t : List A) (p : Position) → endOf lf (take (offset lf t p) t) ≡ clamp lf t p
+  unfolding At
+  end-take t p = end-at t (p .row .0) (p .col .0)
+
+  -- ---- corollaries
+
+  pub clamp-clamp : (t : List A) (p : Position) → clamp lf t (clamp lf t p) ≡ clamp lf t p
+  clamp-clamp t p =
+      let o = offset lf t p in
+      rw (← end-take t p) (ap (λ (s : List A). clamp lf s (endOf lf (take o t))) (sym (take-append-drop o t)) ∙ clamp-end (take o t) (drop o t))
+
+  pub offset-clamp : (t : List A) (p : Position) → offset lf t (clamp lf t p) ≡ offset lf t p
+  unfolding offset
+  offset-clamp t p = rw (clamp-clamp t p)
+
+  pub start-le : (t : List A) (r : ℕ) → rowStart lf t r ≤ length t
+  start-le t zero = rw (start-first lf t) (omega arith)
+  start-le [] (suc r) = rw (start-none lf) (omega arith)
+  start-le (x ∷ t) (suc r) = go (lf x) refl (start-le t r) (start-le t (suc r))
+    where
+      go : (b : Bool) → lf x ≡ b → rowStart lf t r ≤ length t → rowStart lf t (suc r) ≤ length t → rowStart lf (x ∷ t) (suc r) ≤ suc (length t)
+      go true e h k = rw (start-lf lf x t r e) (omega arith)
+      go false e h k = rw (start-other lf x t r e) (omega arith)
+
+  -- a row stands at its start: what follows there, up to an LF, is it
+  pub row-at : (t : List A) (r : ℕ) → rowLen lf (drop (rowStart lf t r) t) 0 ≡ rowLen lf t r
+  row-at t zero = rw (start-first lf t)
+  row-at [] (suc r) = rw (start-none lf, len-none lf 0, len-none lf (suc r))
+  row-at (x ∷ t) (suc r) = go (lf x) refl (row-at t r) (row-at t (suc r))
+    where
+      go : (b : Bool) → lf x ≡ b → rowLen lf (drop (rowStart lf t r) t) 0 ≡ rowLen lf t r → rowLen lf (drop (rowStart lf t (suc r)) t) 0 ≡ rowLen lf t (suc r)
+          → rowLen lf (drop (rowStart lf (x ∷ t) (suc r)) (x ∷ t)) 0 ≡ rowLen lf (x ∷ t) (suc r)
+      go true e h k = rw (start-lf lf x t r e, len-lf-next lf x t r e) h
+      go false e h k = rw (start-other lf x t r e, len-other-next lf x t r e) k
+
+  pub len-le : (t : List A) (r : ℕ) → rowLen lf t r ≤ length t
+  len-le [] r = rw (len-none lf) (omega arith)
+  len-le (x ∷ t) r = go (lf x) refl r (λ r. len-le t r)
+    where
+      go : (b : Bool) → lf x ≡ b → (r : ℕ) → ((r : ℕ) → rowLen lf t r ≤ length t) → rowLen lf (x ∷ t) r ≤ suc (length t)
+      go true e zero h = rw (len-lf lf x t e) (omega arith)
+      go true e (suc r) h = rw (len-lf-next lf x t r e) (omega (arith, h r))
+      go false e zero h = rw (len-other lf x t e) (omega (arith, h 0))
+      go false e (suc r) h = rw (len-other-next lf x t r e) (omega (arith, h (suc r)))
+
+  pub last-le : (t : List A) → lastRow lf t ≤ length t
+  last-le [] = rw last-none (omega arith)
+  last-le (x ∷ t) = go (lf x) refl (last-le t)
+    where
+      go : (b : Bool) → lf x ≡ b → lastRow lf t ≤ length t → lastRow lf (x ∷ t) ≤ suc (length t)
+      go true e h = rw (last-lf x t e) (omega arith)
+      go false e h = rw (last-other x t e) (omega arith)
+
+  pub count-last : (t : List A) → rowCount lf t ≡ lastRow lf t + 1
+  unfolding lastRow
+  count-last t = let h = count-pos lf t in omega arith

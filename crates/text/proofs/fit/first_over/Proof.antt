@@ -1,0 +1,117 @@
+use mathlib.Core.Logic.{⊎-elim}
+use mathlib.Core.Path.{_≡_, refl, sym, ap, _∙_}
+use Prim.Native.Nat.{_≤_, _-_}
+use native.Mathlib.Omega.{arith}
+use borrow.Author.Needs.{needs}
+use lib.ListN.{length, drop}
+use Rattle.promise.specs.Paper.{Paper, done}
+use Rattle.text.proofs.Boxes.{walk, walk-rows, walk-end, walk-lf, walk-out, walk-on}
+use Rattle.text.specs.Answers.{Fit, paperBoxFit}
+use Rattle.text.specs.declared.BoxFit.the-variants.{AllFit}
+use Rattle.text.proofs.fit.first_over.Statement.{statement}
+use Rattle.text.proofs.fit.first_over.Tie as tie
+
+abbrev Inv-cols : tie.InvT-cols
+Inv-cols text cells answer₀ row i₀ col₀ cell₀ answer i col cell = (i₀ ≤ i) × (i ≤ length text) × (col ≤ i) × (row ≤ i) × (cell ≡ col) × (answer ≡ AllFit) × (walk cells row col (drop i text) ≡ walk cells 0 0 text)
+
+abbrev μ-cols : tie.MeasureT-cols
+μ-cols text cells answer₀ row i₀ col₀ cell₀ answer i col cell = length text - i
+
+abbrev Inv-rows : tie.InvT-rows
+Inv-rows text cells answer₀ row₀ i₀ answer row i = (i ≤ length text) × (row ≤ i) × (answer ≡ AllFit) × (walk cells row 0 (drop i text) ≡ walk cells 0 0 text)
+
+abbrev μ-rows : tie.MeasureT-rows
+μ-rows text cells answer₀ row₀ i₀ answer row i = length text - i
+
+rows-holds : tie.Need-rows-holds Inv-cols μ-cols Inv-rows μ-rows
+rows-holds c = (search needs, search needs, refl, refl)
+
+cols-holds : tie.Need-cols-holds Inv-cols μ-cols Inv-rows μ-rows
+cols-holds c = let v = c .before .rows .inv in (search needs, search needs, search needs, search needs, refl, v .2, v .3)
+
+mul-if1 : tie.Need-mul-if1 Inv-cols μ-cols Inv-rows μ-rows
+mul-if1 c = search needs
+
+shared-slice-read-if1 : tie.Need-shared-slice-read-if1 Inv-cols μ-cols Inv-rows μ-rows
+shared-slice-read-if1 c = search needs
+
+mul-cell-after : tie.Need-mul-cell-after Inv-cols μ-cols Inv-rows μ-rows
+mul-cell-after c = search needs
+
+shared-slice-read-cell-after :
+    tie.Need-shared-slice-read-cell-after Inv-cols μ-cols Inv-rows μ-rows
+shared-slice-read-cell-after c = search needs
+
+cell-after-requires : tie.Need-cell-after-requires Inv-cols μ-cols Inv-rows μ-rows
+cell-after-requires c κs = search needs
+
+add-col : tie.Need-add-col Inv-cols μ-cols Inv-rows μ-rows
+add-col c = search needs
+
+add-i : tie.Need-add-i Inv-cols μ-cols Inv-rows μ-rows
+add-i c = search needs
+
+cols-less : tie.Need-cols-less Inv-cols μ-cols Inv-rows μ-rows
+cols-less c = search needs
+
+cols-again : tie.Need-cols-again Inv-cols μ-cols Inv-rows μ-rows
+cols-again c = let k = c .before .before .before .before .before .before .cols in let r = c .before .before .before .before .before .before .before .before .rows in let a = c .before .before .before .before .before .before .before .before .before .before .args in
+    let n = c .before .cell-after .ensures in
+    (omega arith, omega arith, omega arith, omega arith, omega arith, k .inv .5, sym (walk-on (a .cells) (r .row) (k .col) (a .text .now) (k .i) (omega arith) (c .before .before .before .if1 .left) (omega arith)) ∙ k .inv .6)
+
+add-i-2 : tie.Need-add-i-2 Inv-cols μ-cols Inv-rows μ-rows
+add-i-2 c = search needs
+
+add-row : tie.Need-add-row Inv-cols μ-cols Inv-rows μ-rows
+add-row c = search needs
+
+rows-less : tie.Need-rows-less Inv-cols μ-cols Inv-rows μ-rows
+rows-less c = search needs
+
+rows-again : tie.Need-rows-again Inv-cols μ-cols Inv-rows μ-rows
+rows-again c = let k = c .before .before .cols in let r = c .before .before .before .before .rows in let a = c .before .before .before .before .before .before .args in
+    (omega arith, omega arith, k .inv .5, ⊎-elim (λ w. absurd (omega arith)) (λ w. sym (walk-lf (a .cells) (r .row) (k .col) (a .text .now) (k .i) (omega arith) (w .2 .taken)) ∙ k .inv .6) (c .before .cols-test .came))
+
+rows-less-2 : tie.Need-rows-less-2 Inv-cols μ-cols Inv-rows μ-rows
+rows-less-2 c = search needs
+
+rows-again-2 : tie.Need-rows-again-2 Inv-cols μ-cols Inv-rows μ-rows
+rows-again-2 c = let k = c .before .before .cols in let r = c .before .before .before .before .rows in let a = c .before .before .before .before .before .before .args in
+    (omega arith, omega arith, k .inv .5, walk-end (a .cells) (r .row) 0 (a .text .now) (k .i) (omega arith) ∙ sym (walk-end (a .cells) (r .row) (k .col) (a .text .now) (k .i) (omega arith)) ∙ k .inv .6)
+
+returns : tie.Need-returns Inv-cols μ-cols Inv-rows μ-rows
+returns c = let r = c .before .rows in let a = c .before .before .before .args in
+    ap paperBoxFit (r .inv .2) ∙ ap {B = Paper Fit} done (sym (walk-end (a .cells) (r .row) 0 (a .text .now) (r .i) (omega arith)) ∙ r .inv .3 ∙ walk-rows (a .cells) (a .text .now))
+
+returns-2 : tie.Need-returns-2 Inv-cols μ-cols Inv-rows μ-rows
+returns-2 c = let k = c .before .before .before .before .before .before .cols in let r = c .before .before .before .before .before .before .before .before .rows in let a = c .before .before .before .before .before .before .before .before .before .before .args in
+    let n = c .before .cell-after .ensures in
+    ap {B = Paper Fit} done (sym (walk-out (a .cells) (r .row) (k .col) (a .text .now) (k .i) (omega arith) (c .before .before .before .if1 .left) (omega arith)) ∙ k .inv .6 ∙ walk-rows (a .cells) (a .text .now))
+
+pub first-over-spec : {M : Type 1} → statement M
+first-over-spec =
+    tie.close
+    (tie.spec
+    Inv-cols
+    μ-cols
+    Inv-rows
+    μ-rows
+    rows-holds
+    cols-holds
+    mul-if1
+    shared-slice-read-if1
+    mul-cell-after
+    shared-slice-read-cell-after
+    cell-after-requires
+    add-col
+    add-i
+    cols-less
+    cols-again
+    add-i-2
+    add-row
+    rows-less
+    rows-again
+    rows-less-2
+    rows-again-2
+    returns
+    returns-2)

@@ -1,0 +1,82 @@
+// Texts and places in them: rows, columns, character offsets, and which texts are admitted.
+mod admit;
+mod fit;
+mod rows;
+
+pub use admit::all_admissible;
+pub use admit::is_text;
+pub use fit::box_fit;
+pub use rows::LF;
+pub use rows::clamp;
+pub use rows::clamp_position;
+pub use rows::contains;
+pub use rows::last_row;
+pub use rows::line_char_count;
+pub use rows::line_to_char;
+pub use rows::pos_to_char_idx;
+pub use rows::row_count;
+ghost use mathlib.Core.Path.{_≡_};
+ghost use Prim.Native.Nat.{min};
+ghost use Rattle.text.specs.Rows.{upto, earlier, later};
+
+pub struct Row(pub u32);
+
+pub struct Col(pub u32);
+
+// A place in a text, counted in characters from its start.
+pub struct CharOffset(pub usize);
+
+pub struct Position {
+    pub row: Row,
+    pub col: Col,
+}
+
+// A position in the text, or the refusal.
+pub enum Clamped {
+    At(Position),
+    BadText,
+}
+
+// Whether every row fits a box, or where the first that does not leaves it.
+pub enum BoxFit {
+    AllFit,
+    Leaves(Position),
+    BadText,
+}
+
+impl Row {
+    pub fn min(self, other: Row) -> Row
+        ensures { λ r. ⌜ r .0 ≡ min (self .0) (other .0) ⌝ }
+    {
+        if self.0 <= other.0 { self } else { other }
+    }
+}
+
+impl Col {
+    pub fn min(self, other: Col) -> Col
+        ensures { λ r. ⌜ r .0 ≡ min (self .0) (other .0) ⌝ }
+    {
+        if self.0 <= other.0 { self } else { other }
+    }
+}
+
+impl Position {
+    // Whether this is `other`, or stands before it.
+    pub fn le(self, other: Position) -> bool
+        ensures { λ r. ⌜ r ≡ upto self other ⌝ }
+    {
+        (self.row.0 < other.row.0) | ((self.row.0 == other.row.0) & (self.col.0 <= other.col.0))
+    }
+
+    pub fn min(self, other: Position) -> Position
+        ensures { λ r. ⌜ r ≡ earlier self other ⌝ }
+    {
+        if self.le(other) { self } else { other }
+    }
+
+    pub fn max(self, other: Position) -> Position
+        ensures { λ r. ⌜ r ≡ later self other ⌝ }
+    {
+        if self.le(other) { other } else { self }
+    }
+}

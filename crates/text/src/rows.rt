@@ -1,0 +1,118 @@
+// Rows and places of a text. The functions that take `text` are lent the used part alone.
+use crate::CharOffset;
+use crate::Clamped;
+use crate::Col;
+use crate::Position;
+use crate::Row;
+use crate::admit::is_text;
+ghost use mathlib.Core.Path.{_≡_};
+ghost use Prim.Native.Nat.{_≤_};
+ghost use lib.ListN.{length, drop};
+ghost use Rattle.text.specs.Rows.{rowCount, lastRow, rowLen, rowStart, clamp, offset};
+ghost use Rattle.text.specs.Text.{isLF, inText};
+ghost use Rattle.text.specs.Answers.{paperClamped};
+ghost use Rattle.text.specs.Calls.{clampedIn};
+
+pub const LF: u32 = 10;
+
+pub fn last_row(text: &[u32]) -> Row
+    requires { ⌜ length (now text) ≤ 16384 ⌝ }
+    ensures { λ r. ⌜ r .0 ≡ lastRow isLF (now (text .entry)) ⌝ }
+{
+    let mut count = 0;
+    let mut i = 0;
+    while i < text.len() {
+        if text[i] == LF {
+            count += 1;
+        }
+        i += 1;
+    }
+    Row(count)
+}
+
+pub fn row_count(text: &[u32]) -> u32
+    requires { ⌜ length (now text) ≤ 16384 ⌝ }
+    ensures { λ r. ⌜ r ≡ rowCount isLF (now (text .entry)) ⌝ }
+{
+    last_row(text).0 + 1
+}
+
+// Where a row starts; past the last row, where the text ends.
+pub fn line_to_char(text: &[u32], row: Row) -> CharOffset
+    ensures { λ r. ⌜ r .0 ≡ rowStart isLF (now (text .entry)) (row .0) ⌝ }
+{
+    let mut above = row.0;
+    let mut i = 0;
+    while i < text.len() {
+        if above == 0 {
+            return CharOffset(i);
+        }
+        if text[i] == LF {
+            above -= 1;
+        }
+        i += 1;
+    }
+    CharOffset(i)
+}
+
+// How many characters stand from `start` to the next LF, or to the end.
+fn run_len(text: &[u32], start: CharOffset) -> usize
+    requires { ⌜ start .0 ≤ length (now text) ⌝ }
+    ensures { λ r. ⌜ r ≡ rowLen isLF (drop (start .0) (now (text .entry))) 0 ⌝ }
+{
+    let first = start.0;
+    let mut i = first;
+    while i < text.len() {
+        if text[i] == LF {
+            return i - first;
+        }
+        i += 1;
+    }
+    i - first
+}
+
+// The length of a row; 0 past the last row.
+pub fn line_char_count(text: &[u32], row: Row) -> Col
+    requires { ⌜ length (now text) ≤ 16384 ⌝ }
+    ensures { λ r. ⌜ r .0 ≡ rowLen isLF (now (text .entry)) (row .0) ⌝ }
+{
+    let start = line_to_char(text, row);
+    Col(run_len(text, start) as u32)
+}
+
+pub fn clamp(text: &[u32], pos: Position) -> Position
+    requires { ⌜ length (now text) ≤ 16384 ⌝ }
+    ensures { λ r. ⌜ r ≡ clamp isLF (now (text .entry)) pos ⌝ }
+{
+    let row = pos.row.min(last_row(text));
+    let col = pos.col.min(line_char_count(text, row));
+    Position { row, col }
+}
+
+// The offset of a position, clamped.
+pub fn pos_to_char_idx(text: &[u32], pos: Position) -> CharOffset
+    requires { ⌜ length (now text) ≤ 16384 ⌝ }
+    ensures { λ r. ⌜ r .0 ≡ offset isLF (now (text .entry)) pos ⌝ }
+{
+    let inside = clamp(text, pos);
+    let start = line_to_char(text, inside.row);
+    CharOffset(start.0 + inside.col.0 as usize)
+}
+
+// Whether clamping leaves the position as it is.
+pub fn contains(text: &[u32], pos: Position) -> bool
+    requires { ⌜ length (now text) ≤ 16384 ⌝ }
+    ensures { λ r. ⌜ r ≡ inText (now (text .entry)) pos ⌝ }
+{
+    let inside = clamp(text, pos);
+    (inside.row.0 == pos.row.0) & (inside.col.0 == pos.col.0)
+}
+
+pub fn clamp_position(buffer: &[u32], used: usize, pos: Position) -> Clamped
+    ensures { λ r. ⌜ paperClamped r ≡ clampedIn (now (buffer .entry)) used pos ⌝ }
+{
+    if !is_text(buffer, used) {
+        return Clamped::BadText;
+    }
+    Clamped::At(clamp(&buffer[0..used], pos))
+}
