@@ -15,7 +15,7 @@ use Rattle.text.specs.Text.{isLF}
 use Rattle.text.specs.Answers.{Fit, allFit, leaves}
 use Rattle.text.specs.Calls.{firstOver}
 use Rattle.text.proofs.Lines.{lines-cons}
-use Rattle.text.proofs.Scans.{next}
+use Rattle.promise.proofs.Lists.{next}
 
 -- what is left of a text, at row r and after c characters of it
 unfoldable pub walk : ℕ → ℕ → ℕ → List ℕ → Fit

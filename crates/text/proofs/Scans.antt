@@ -1,45 +1,42 @@
 -- How a definition over rows goes on at index i of a scan forwards: by what stands at i, and at the end.
 use mathlib.Core.Path.{_≡_, refl}
 use mathlib.Core.Bool.{Bool, _&&_, and-assoc, and-true}
-use mathlib.Core.List.{List, _∷_}
+use mathlib.Core.List.{List}
 use Prim.Native.Nat.{ℕ, zero, suc, _+_, _-_, _≤_, _<_}
-use native.Mathlib.Numerals.{add-one, sub-one}
+use native.Mathlib.Numerals.{sub-one}
 use borrow.Author.Tests.{eq-eqb, ne-eqb}
 use lib.ListN.{length, drop, getD, drop-of-length-le}
-use lib.Seq.{drop-cons}
+use Rattle.promise.proofs.Lists.{next}
 use Rattle.text.specs.Rows.{lastRow, rowLen, rowStart}
 use Rattle.text.specs.Text.{isLF, admissible, allAdmissible}
 use Rattle.text.proofs.Lines.{start-lf, start-other, start-none, len-lf, len-other, len-none}
 use Rattle.text.proofs.Places.{last-lf, last-other, last-none}
 
 module _ (s : List ℕ) (i : ℕ) (h : i < length s) where
-  pub next : drop i s ≡ getD s i 0 ∷ drop (i + 1) s
-  next = rw (add-one, drop-cons s i 0)
-
   pub last-at-lf : getD s i 0 ≡ 10 → lastRow isLF (drop i s) ≡ suc (lastRow isLF (drop (i + 1) s))
-  last-at-lf e = rw next (last-lf isLF (getD s i 0) (drop (i + 1) s) (eq-eqb (getD s i 0) 10 e))
+  last-at-lf e = rw (next s i h) (last-lf isLF (getD s i 0) (drop (i + 1) s) (eq-eqb (getD s i 0) 10 e))
 
   pub last-at-other : (getD s i 0 ≡ 10 → ⊥) → lastRow isLF (drop i s) ≡ lastRow isLF (drop (i + 1) s)
-  last-at-other e = rw next (last-other isLF (getD s i 0) (drop (i + 1) s) (ne-eqb (getD s i 0) 10 e))
+  last-at-other e = rw (next s i h) (last-other isLF (getD s i 0) (drop (i + 1) s) (ne-eqb (getD s i 0) 10 e))
 
   pub start-at-lf : (r : ℕ) → (r ≡ 0 → ⊥) → getD s i 0 ≡ 10 → rowStart isLF (drop i s) r ≡ suc (rowStart isLF (drop (i + 1) s) (r - 1))
   start-at-lf zero z e = absurd (z refl)
-  start-at-lf (suc r) z e = rw (next, sub-one) (start-lf isLF (getD s i 0) (drop (i + 1) s) r (eq-eqb (getD s i 0) 10 e))
+  start-at-lf (suc r) z e = rw (next s i h, sub-one) (start-lf isLF (getD s i 0) (drop (i + 1) s) r (eq-eqb (getD s i 0) 10 e))
 
   pub start-at-other : (r : ℕ) → (r ≡ 0 → ⊥) → (getD s i 0 ≡ 10 → ⊥) → rowStart isLF (drop i s) r ≡ suc (rowStart isLF (drop (i + 1) s) r)
   start-at-other zero z e = absurd (z refl)
-  start-at-other (suc r) z e = rw next (start-other isLF (getD s i 0) (drop (i + 1) s) r (ne-eqb (getD s i 0) 10 e))
+  start-at-other (suc r) z e = rw (next s i h) (start-other isLF (getD s i 0) (drop (i + 1) s) r (ne-eqb (getD s i 0) 10 e))
 
   pub len-at-lf : getD s i 0 ≡ 10 → rowLen isLF (drop i s) 0 ≡ 0
-  len-at-lf e = rw next (len-lf isLF (getD s i 0) (drop (i + 1) s) (eq-eqb (getD s i 0) 10 e))
+  len-at-lf e = rw (next s i h) (len-lf isLF (getD s i 0) (drop (i + 1) s) (eq-eqb (getD s i 0) 10 e))
 
   pub len-at-other : (getD s i 0 ≡ 10 → ⊥) → rowLen isLF (drop i s) 0 ≡ suc (rowLen isLF (drop (i + 1) s) 0)
-  len-at-other e = rw next (len-other isLF (getD s i 0) (drop (i + 1) s) (ne-eqb (getD s i 0) 10 e))
+  len-at-other e = rw (next s i h) (len-other isLF (getD s i 0) (drop (i + 1) s) (ne-eqb (getD s i 0) 10 e))
 
   pub all-at : (all b : Bool) → b ≡ admissible (getD s i 0) → (all && allAdmissible (drop i s)) ≡ allAdmissible s
       → ((all && b) && allAdmissible (drop (i + 1) s)) ≡ allAdmissible s
   unfolding allAdmissible
-  all-at all b e inv = rw (e, and-assoc) (rw next at inv)
+  all-at all b e inv = rw (e, and-assoc) (rw (next s i h) at inv)
 
 module _ (s : List ℕ) (i : ℕ) (h : length s ≤ i) where
   pub last-at-end : lastRow isLF (drop i s) ≡ 0

@@ -9,7 +9,7 @@ use borrow.Author.Tests.{le-leb, lt-leb, leb-true, not-true, not-false}
 use lib.Dec.{leb, eqb}
 use lib.ListN.{length, take, drop}
 use Rattle.promise.specs.Paper.{Paper, done, refused}
-use Rattle.utf8.proofs.Taken.{both}
+use Rattle.promise.proofs.Bools.{both}
 use Rattle.text.specs.declared.Position.{Position}
 use Rattle.text.specs.Rows.{lastRow, rowLen, rowStart, clamp, offset, at}
 use Rattle.text.specs.Text.{isLF, allAdmissible, textOk, inText}

@@ -10,7 +10,7 @@ use borrow.Author.Tests.{leb-true, lt-leb}
 use lib.Dec.{leb}
 use lib.ListN.{length, take, drop}
 use Rattle.utf8.specs.Rfc3629.{Range, UTF8-2, UTF8-3, UTF8-4, UTF8-char, UTF8-tail, within, begins, taken, scalar, octets, number}
-use Rattle.utf8.proofs.Taken.{both}
+use Rattle.promise.proofs.Bools.{both}
 use Rattle.utf8.proofs.Numbers.{at-most, within-true, scalar-low, scalar-high, scalar-ranges, scalar-le, octets-1, octets-2, octets-3, octets-4}
 
 -- what the table gives back for a sequence's number

@@ -9,8 +9,9 @@ use native.Mathlib.Omega.{arith}
 use borrow.Author.Tests.{not-true, eq-eqb, leb-true}
 use lib.Count.{leadingZeros}
 use lib.Dec.{eqb, leb}
-use Rattle.utf8.specs.Rfc3629.{Range, UTF8-1, UTF8-2, UTF8-3, UTF8-4, UTF8-char, within, begins, taken, announced}
-use Rattle.utf8.proofs.Taken.{both}
+use Rattle.utf8.specs.Rfc3629.{Range, UTF8-1, UTF8-2, UTF8-3, UTF8-4, UTF8-char, within, begins, taken}
+use Rattle.utf8.specs.Lead.{announced}
+use Rattle.promise.proofs.Bools.{both}
 
 -- a rule of every number below n, by one computed test
 abbrev pub below : (ℕ → Bool) → ℕ → Bool

@@ -11,7 +11,7 @@ use lib.ListN.{length}
 use Rattle.promise.specs.Paper.{done, refused}
 use Rattle.utf8.specs.Rfc3629.{within, scalar, octets}
 use Rattle.utf8.specs.Calls.{sequenceOf}
-use Rattle.utf8.proofs.Taken.{both}
+use Rattle.promise.proofs.Bools.{both}
 
 pub within-true : (l h x : ℕ) → l ≤ x → x ≤ h → within (l, h) x ≡ true
 within-true l h x p q = rw (le-leb l x p, le-leb x h q)

@@ -6,12 +6,12 @@ use native.Mathlib.Nat.{add-zero, zero-add}
 use native.Mathlib.Numerals.{add-one}
 use native.Mathlib.Omega.{arith}
 use lib.ListN.{length, take, drop, getD, set, length-drop, drop-of-length-le}
-use lib.Seq.{drop-drop, drop-cons, take-length}
+use lib.Seq.{drop-drop, drop-cons}
 use Rattle.promise.specs.Paper.{Paper, done, refused}
 use Rattle.utf8.specs.Rfc3629.{UTF8-char, taken, number}
 use Rattle.utf8.specs.Reading.{Reading, scalars, badAt, prepend, readFrom, reading}
-use Rattle.utf8.specs.Calls.{left, over, stored, stepped, stepBy, counted, decoded, scalarsOf, fillable}
-use Rattle.utf8.proofs.Stores.{stored-not, stored-all, stored-more}
+use Rattle.utf8.specs.Calls.{outcome, over, stored, stepped, stepBy, counted, decoded, scalarsOf, fillable}
+use Rattle.utf8.proofs.Stores.{stored-not, stored-all, stored-more, stored-end}
 use Rattle.utf8.proofs.Taken.{taken-le}
 
 pub read-left : (s : List ℕ) (at left : ℕ) → left ≤ length s → readFrom at left s ≡ readFrom (at + left) 0 (drop left s)
@@ -98,9 +98,14 @@ unfolding prepend
 prepended v (scalars m) l e = (m, refl, cc)
 prepended v (badAt i) l e = let z : _≡_ {A = ℕ} 0 1 = cc in absurd (omega arith)
 
+-- a turn that stored v and went on to j
+abbrev pub Filled : List ℕ → List ℕ → List ℕ → List ℕ → ℕ → ℕ → ℕ → ℕ → Type 0
+Filled s cs b t i k v j =
+    (j ≤ length s) × (k < length cs) × (i < j) × (readFrom j 0 (drop j s) ≡ scalars (drop (k + 1) cs)) × (set t k v ≡ take (k + 1) cs ++ drop (k + 1) b)
+
 module _ (s cs : List ℕ) (i k : ℕ) (inv : readFrom i 0 (drop i s) ≡ scalars (drop k cs)) where
   pub fill-again : (b t : List ℕ) (v j : ℕ) → done (v, j) ≡ stepBy UTF8-char s i → i ≤ length s → length cs ≤ length b → t ≡ take k cs ++ drop k b
-      → (j ≤ length s) × (k < length cs) × (i < j) × (readFrom j 0 (drop j s) ≡ scalars (drop (k + 1) cs)) × (set t k v ≡ take (k + 1) cs ++ drop (k + 1) b)
+      → Filled s cs b t i k v j
   fill-again b t v j e h room f =
       let d = step-done s i v j e h in
       let m = prepended v (readFrom j 0 (drop j s)) (drop k cs) (sym (d .0) ∙ inv) in
@@ -118,9 +123,7 @@ module _ (s cs : List ℕ) (i k : ℕ) (inv : readFrom i 0 (drop i s) ≡ scalar
   pub fill-all : (b t : List ℕ) → length s ≤ i → k ≤ length cs → t ≡ take k cs ++ drop k b → t ≡ over cs b
   fill-all b t h l f =
       let d : scalars [] ≡ scalars (drop k cs) = sym (read-end s i h) ∙ inv in
-      let e : [] ≡ drop k cs = cc in
-      let n : k ≡ length cs = omega (arith, simp length-drop at (ap length e)) in
-      rw (f, n, take-length)
+      stored-end cs b t k f (cc) l
 
 -- The whole call: what was counted decides it.
 pub counted-done : (r : Reading) (n : ℕ) → done n ≡ counted r → (r ≡ scalars (scalarsOf r)) × (length (scalarsOf r) ≡ n)
@@ -131,7 +134,7 @@ counted-done (badAt k) n e = let z : _≡_ {A = ℕ} 0 1 = cc in absurd (omega a
 pub ready : (r : Reading) (n m : ℕ) → done n ≡ counted r → n ≤ m → fillable r m
 ready r n m e h = let d = counted-done r n e in (d .0, omega arith)
 
-pub decode-bad : (r : Reading) (b : List ℕ) (k : ℕ) → refused 5 k ≡ counted r → left (refused 5 k) b ≡ decoded r b
+pub decode-bad : (r : Reading) (b : List ℕ) (k : ℕ) → refused 5 k ≡ counted r → outcome (refused 5 k) b ≡ decoded r b
 unfolding counted decoded
 decode-bad (scalars cs) b k e = let z : _≡_ {A = ℕ} 0 1 = cc in absurd (omega arith)
 decode-bad (badAt j) b k e = rw e
@@ -141,8 +144,8 @@ module _ (r : Reading) (b : List ℕ) (n : ℕ) (e : done n ≡ counted r) where
   unfolding decoded
   decoded-scalars = ap (λ (x : Reading). decoded x b) (counted-done r n e .0)
 
-  pub decode-full : length b < n → left (refused 8 0) b ≡ decoded r b
+  pub decode-full : length b < n → outcome (refused 8 0) b ≡ decoded r b
   decode-full h = rw decoded-scalars (stored-not (scalarsOf r) b n (counted-done r n e .1) h)
 
-  pub decode-all : (t : List ℕ) → n ≤ length b → t ≡ over (scalarsOf r) b → left (done n) t ≡ decoded r b
+  pub decode-all : (t : List ℕ) → n ≤ length b → t ≡ over (scalarsOf r) b → outcome (done n) t ≡ decoded r b
   decode-all t h f = rw decoded-scalars (stored-all (scalarsOf r) b n (counted-done r n e .1) t h f)

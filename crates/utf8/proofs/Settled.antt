@@ -5,7 +5,7 @@ use mathlib.Core.List.{List, [], _∷_}
 use Prim.Native.Nat.{ℕ}
 use lib.Dec.{eqb}
 use Rattle.promise.specs.Paper.{Paper, done, refused}
-use Rattle.promise.specs.Settled.{tells}
+use Rattle.promise.proofs.Settled.{settled}
 use Rattle.utf8.specs.declared.Step.{Step}
 use Rattle.utf8.specs.declared.Step.the-variants as step
 use Rattle.utf8.specs.declared.ScalarCount.{ScalarCount}
@@ -87,10 +87,10 @@ encoded-back encoded.NoRoom = refl
 pub promises-settle : Settled
 promises-settle =
     record {
-      read-scalar = tells stepBack step-back;
-      count-scalars = tells countBack count-back;
-      decode = tells (λ l. (decodedBack (l .answer), l .out)) (λ x. ap (λ (d : Decoded). (d, x .1)) (decoded-back (x .0)));
-      sequence-of = tells sequenceBack sequence-back;
-      count-octets = tells octetsBack octets-back;
-      encode = tells (λ l. (encodedBack (l .answer), l .out)) (λ x. ap (λ (d : Encoded). (d, x .1)) (encoded-back (x .0)));
+      read-scalar = settled stepBack step-back;
+      count-scalars = settled countBack count-back;
+      decode = settled (λ l. (decodedBack (l .answer), l .out)) (λ x. ap (λ (d : Decoded). (d, x .1)) (decoded-back (x .0)));
+      sequence-of = settled sequenceBack sequence-back;
+      count-octets = settled octetsBack octets-back;
+      encode = settled (λ l. (encodedBack (l .answer), l .out)) (λ x. ap (λ (d : Encoded). (d, x .1)) (encoded-back (x .0)));
     }

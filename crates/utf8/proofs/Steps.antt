@@ -3,14 +3,15 @@ use mathlib.Core.Path.{_≡_, refl, _∙_}
 use mathlib.Core.Bool.{Bool, true, false, cond}
 use mathlib.Core.List.{List, [], _∷_, _++_}
 use Prim.Native.Nat.{ℕ, suc, _+_, _-_, _≤_, _<_}
-use native.Mathlib.Numerals.{add-one}
 use native.Mathlib.Omega.{arith}
 use borrow.Author.Tests.{ne-eqb}
 use lib.Count.{leadingZeros}
 use lib.ListN.{length, drop, getD, length-drop}
-use lib.Seq.{drop-cons, take-at}
+use lib.Seq.{take-at}
+use Rattle.promise.proofs.Lists.{next}
 use Rattle.promise.specs.Paper.{done, refused}
-use Rattle.utf8.specs.Rfc3629.{Range, UTF8-char, taken, number, announced}
+use Rattle.utf8.specs.Rfc3629.{Range, UTF8-char, taken, number}
+use Rattle.utf8.specs.Lead.{announced}
 use Rattle.utf8.specs.Calls.{stepped, stepBy}
 use Rattle.utf8.proofs.Lead.{leads}
 use Rattle.utf8.proofs.Agree.{takes-1}
@@ -32,23 +33,20 @@ unfolding stepped
 cut-off n rule s i e h = rw (taken-short n rule (drop i s) e (simp length-drop h))
 
 -- the next octets of s from i on
-pub next-1 : (s : List ℕ) (i : ℕ) → i < length s → drop i s ≡ getD s i 0 ∷ drop (i + 1) s
-next-1 s i h = rw (add-one, drop-cons s i 0)
-
 pub next-2 : (s : List ℕ) (i : ℕ) → i + 1 < length s → drop i s ≡ getD s i 0 ∷ getD s (i + 1) 0 ∷ drop (i + 2) s
-next-2 s i h = let e : i + 2 ≡ i + 1 + 1 = omega arith in next-1 s i (omega arith) ∙ rw (e, next-1 s (i + 1) h)
+next-2 s i h = let e : i + 2 ≡ i + 1 + 1 = omega arith in next s i (omega arith) ∙ rw (e, next s (i + 1) h)
 
 pub next-3 : (s : List ℕ) (i : ℕ) → i + 2 < length s → drop i s ≡ getD s i 0 ∷ getD s (i + 1) 0 ∷ getD s (i + 2) 0 ∷ drop (i + 3) s
-next-3 s i h = let e : i + 3 ≡ i + 2 + 1 = omega arith in next-2 s i (omega arith) ∙ rw (e, next-1 s (i + 2) h)
+next-3 s i h = let e : i + 3 ≡ i + 2 + 1 = omega arith in next-2 s i (omega arith) ∙ rw (e, next s (i + 2) h)
 
 pub next-4 : (s : List ℕ) (i : ℕ) → i + 3 < length s
     → drop i s ≡ getD s i 0 ∷ getD s (i + 1) 0 ∷ getD s (i + 2) 0 ∷ getD s (i + 3) 0 ∷ drop (i + 4) s
-next-4 s i h = let e : i + 4 ≡ i + 3 + 1 = omega arith in next-3 s i (omega arith) ∙ rw (e, next-1 s (i + 3) h)
+next-4 s i h = let e : i + 4 ≡ i + 3 + 1 = omega arith in next-3 s i (omega arith) ∙ rw (e, next s (i + 3) h)
 
 -- A step by the rule that the lead announces is a step.
 pub announces : (s : List ℕ) (i o : ℕ) → i < length s → getD s i 0 < 256 → o ≡ leadingZeros 8 (255 - getD s i 0)
     → stepBy (announced o) s i ≡ stepBy UTF8-char s i
-announces s i o h k e = rw (next-1 s i h, e, leads (getD s i 0) (drop (i + 1) s) k)
+announces s i o h k e = rw (next s i h, e, leads (getD s i 0) (drop (i + 1) s) k)
 
 -- A count of 1 or over 4 announces none.
 pub unannounced : (s : List ℕ) (i o : ℕ) → 0 < o → (o ≡ 2 → ⊥) → (o ≡ 3 → ⊥) → (o ≡ 4 → ⊥) → refused 5 i ≡ stepBy (announced o) s i
@@ -57,4 +55,4 @@ unannounced s i o h p q r = rw (ne-eqb o 0 (omega arith), ne-eqb o 2 p, ne-eqb o
 
 pub ascii : (s : List ℕ) (i v : ℕ) → i < length s → getD s i 0 ≤ 0x7F → v ≡ getD s i 0 → done (v, i + 1) ≡ stepBy UTF8-char s i
 unfolding number
-ascii s i v h k f = found UTF8-char s (getD s i 0 ∷ []) (drop (i + 1) s) i 0 true (next-1 s i h) refl (takes-1 (getD s i 0) (drop (i + 1) s) k) v refl f
+ascii s i v h k f = found UTF8-char s (getD s i 0 ∷ []) (drop (i + 1) s) i 0 true (next s i h) refl (takes-1 (getD s i 0) (drop (i + 1) s) k) v refl f

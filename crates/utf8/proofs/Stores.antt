@@ -1,20 +1,20 @@
 -- A list that goes to the front of a lent slice, or is refused by 8.
 use mathlib.Core.Path.{_≡_, sym, ap, _∙_}
-use mathlib.Core.List.{List, _++_}
+use mathlib.Core.List.{List, [], _++_}
 use Prim.Native.Nat.{ℕ, _+_, _≤_, _<_}
 use native.Mathlib.Omega.{arith}
 use borrow.Author.Tests.{lt-ltb, le-ltb}
 use lib.ListN.{length, take, drop, length-append, length-take, length-drop}
-use lib.Seq.{sets, sets-eq, take-at, take-add, drop-drop, drop-append-add, take-append-seam, drop-append-seam, length-take-le}
+use lib.Seq.{take-length, sets, sets-eq, take-at, take-add, drop-drop, drop-append-add, take-append-seam, drop-append-seam, length-take-le}
 use Rattle.promise.specs.Paper.{done, refused}
-use Rattle.utf8.specs.Calls.{left, over, stored}
+use Rattle.utf8.specs.Calls.{outcome, over, stored}
 
 module _ (xs b : List ℕ) (n : ℕ) (e : length xs ≡ n) where
-  pub stored-not : length b < n → left (refused 8 0) b ≡ stored xs b
+  pub stored-not : length b < n → outcome (refused 8 0) b ≡ stored xs b
   unfolding stored
   stored-not h = rw (e, lt-ltb _ _ h)
 
-  pub stored-all : (t : List ℕ) → n ≤ length b → t ≡ over xs b → left (done n) t ≡ stored xs b
+  pub stored-all : (t : List ℕ) → n ≤ length b → t ≡ over xs b → outcome (done n) t ≡ stored xs b
   unfolding stored
   stored-all t h f = rw (e, le-ltb _ _ h, f, e)
 
@@ -31,3 +31,7 @@ module _ (w b t os rest : List ℕ) (k : ℕ) (inv : t ≡ take k w ++ drop k b)
 
   pub stored-rest : drop (k + length os) w ≡ rest
   stored-rest = sym (drop-drop (length os) k w) ∙ rw (d, drop-append-seam)
+
+-- and w has no more
+pub stored-end : (w b t : List ℕ) (k : ℕ) → t ≡ take k w ++ drop k b → drop k w ≡ [] → k ≤ length w → t ≡ over w b
+stored-end w b t k inv e l = let n : k ≡ length w = omega (arith, simp length-drop at (ap length e)) in rw (inv, n, take-length)

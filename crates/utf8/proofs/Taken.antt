@@ -7,6 +7,7 @@ use native.Mathlib.Omega.{arith}
 use borrow.Author.Tests.{leb-true}
 use lib.Dec.{leb}
 use lib.ListN.{length}
+use Rattle.promise.proofs.Bools.{both}
 use Rattle.utf8.specs.Rfc3629.{Range, within, begins, taken}
 
 -- alternatives with one answer are one
@@ -20,10 +21,6 @@ module _ {A : Type 0} where
 
   pub cond-or-4 : (p q r t : Bool) (x y : A) → cond p x (cond q x (cond r x (cond t x y))) ≡ cond (p || q || r || t) x y
   cond-or-4 p q r t x y = cond-or-3 p q r x (cond t x y) ∙ cond-or (p || q || r) t x y
-
-pub both : (a b : Bool) → (a && b) ≡ true → (a ≡ true) × (b ≡ true)
-both true b e = (refl, e)
-both false b e = let z : false ≡ true = e in (e, cc)
 
 -- a row of ranges as the code tests it
 module _ (p q : Range) (a b : ℕ) where

@@ -3,6 +3,7 @@ use mathlib.Core.Path.{_≡_, refl, sym, ap, _∙_}
 use mathlib.Core.Bool.{Bool, true, false, cond}
 use mathlib.Core.List.{List, [], _∷_, _++_, append-assoc, append-nil}
 use Prim.Native.Nat.{ℕ, zero, suc, _+_, _≤_, _<_}
+use native.Mathlib.Nat.{add-zero, zero-add}
 use native.Mathlib.Omega.{arith}
 use lib.Dec.{ltb}
 use lib.ListN.{length, take, drop, take-append-drop, length-append, length-take}
@@ -10,28 +11,51 @@ use lib.Seq.{take-append-seam, drop-append-seam, drop-nil}
 use Rattle.promise.specs.Paper.{done, refused}
 use Rattle.utf8.specs.Rfc3629.{UTF8-char, taken, number, scalar, octets}
 use Rattle.utf8.specs.Reading.{Reading, scalars, badAt, prepend, readFrom, reading, allScalar, writing}
-use Rattle.utf8.specs.Calls.{left, over, stored, decoded, encoded}
-use Rattle.utf8.specs.Theorems.{ReadsWritten, WritesRead, DecodesEncoded, EncodesDecoded, BadPlace, LeadAnnounces}
-use Rattle.utf8.proofs.Taken.{both, taken-le}
+use Rattle.utf8.specs.Calls.{outcome, over, stored, decoded, encoded}
+use Rattle.utf8.specs.Theorems.{ReadsWritten, WritesRead, DecodesEncoded, EncodesDecoded, BadPlace, RefusesThere, LeadAnnounces}
+use Rattle.promise.proofs.Bools.{both}
+use Rattle.utf8.proofs.Taken.{taken-le}
 use Rattle.utf8.proofs.Lead.{leads}
 use Rattle.utf8.proofs.Numbers.{octets-len}
 use Rattle.utf8.proofs.Agree.{sound, complete}
 use Rattle.utf8.proofs.Stores.{stored-all}
-use Rattle.utf8.proofs.Readings.{read-found, prepended}
+use Rattle.utf8.proofs.Readings.{read-found, read-lost, prepended}
 
-written-read : (cs : List ℕ) (at : ℕ) → allScalar cs ≡ true → readFrom at 0 (writing cs) ≡ scalars cs
-unfolding allScalar writing readFrom prepend
-written-read [] at e = refl
-written-read (c ∷ cs) at e = go (length (octets c)) refl (written-read cs (at + length (octets c)) (both (scalar c) (allScalar cs) e .1))
+-- the scalars before what is read of the rest
+prependAll : List ℕ → Reading → Reading
+prependAll [] r = r
+prependAll (c ∷ cs) r = prepend c (prependAll cs r)
+
+prepend-scalars : (cs ds : List ℕ) → prependAll cs (scalars ds) ≡ scalars (cs ++ ds)
+unfolding prependAll prepend
+prepend-scalars [] ds = refl
+prepend-scalars (c ∷ cs) ds = rw (prepend-scalars cs ds)
+
+prepend-bad : (cs : List ℕ) (k : ℕ) → prependAll cs (badAt k) ≡ badAt k
+unfolding prependAll prepend
+prepend-bad [] k = refl
+prepend-bad (c ∷ cs) k = rw (prepend-bad cs k)
+
+written-read : (cs q : List ℕ) (at : ℕ) → allScalar cs ≡ true → readFrom at 0 (writing cs ++ q) ≡ prependAll cs (readFrom (at + length (writing cs)) 0 q)
+unfolding allScalar writing prependAll
+written-read [] q at e = rw add-zero
+written-read (c ∷ cs) q at e = go (length (octets c)) refl (written-read cs q (at + length (octets c)) (both (scalar c) (allScalar cs) e .1))
   where
-    go : (n : ℕ) → length (octets c) ≡ n → readFrom (at + length (octets c)) 0 (writing cs) ≡ scalars cs → readFrom at 0 (octets c ++ writing cs) ≡ scalars (c ∷ cs)
+    go : (n : ℕ) → length (octets c) ≡ n
+        → readFrom (at + length (octets c)) 0 (writing cs ++ q) ≡ prependAll cs (readFrom (at + length (octets c) + length (writing cs)) 0 q)
+        → readFrom at 0 ((octets c ++ writing cs) ++ q) ≡ prepend c (prependAll cs (readFrom (at + length (octets c ++ writing cs)) 0 q))
     go zero l ih = absurd (omega (arith, octets-len c .0))
     go (suc n) l ih =
-        let k = complete c (writing cs) (both (scalar c) (allScalar cs) e .0) in
-        read-found (octets c ++ writing cs) at n (k .0 ∙ l) ∙ rw (← l, take-append-seam, drop-append-seam, k .1, ih)
+        let k = complete c (writing cs ++ q) (both (scalar c) (allScalar cs) e .0) in
+        let m : at + length (octets c ++ writing cs) ≡ at + length (octets c) + length (writing cs) = simp length-append (omega arith) in
+        rw (append-assoc, m) (read-found (octets c ++ (writing cs ++ q)) at n (k .0 ∙ l) ∙ rw (← l, take-append-seam, drop-append-seam, k .1, ih))
 
 pub reads-written : ReadsWritten
-reads-written cs e = written-read cs 0 e
+unfolding readFrom
+reads-written cs e = ap reading (sym (append-nil (writing cs))) ∙ written-read cs [] 0 e ∙ prepend-scalars cs [] ∙ rw append-nil
+
+pub refuses-there : RefusesThere
+refuses-there cs q e h t = written-read cs q 0 e ∙ rw (read-lost q (0 + length (writing cs)) t h, zero-add) (prepend-bad cs (length (writing cs)))
 
 bad-prepended : (v : ℕ) (r : Reading) (k : ℕ) → prepend v r ≡ badAt k → r ≡ badAt k
 unfolding prepend
@@ -115,20 +139,20 @@ stored-done : (xs out : List ℕ) (n : ℕ) → stored xs out .answer ≡ done n
 unfolding stored
 stored-done xs out n e = go (ltb (length out) (length xs)) e
   where
-    go : (b : Bool) → cond b (left (refused 8 0) out) (left (done (length xs)) (over xs out)) .answer ≡ done n
-        → take n (cond b (left (refused 8 0) out) (left (done (length xs)) (over xs out)) .out) ≡ xs
+    go : (b : Bool) → cond b (outcome (refused 8 0) out) (outcome (done (length xs)) (over xs out)) .answer ≡ done n
+        → take n (cond b (outcome (refused 8 0) out) (outcome (done (length xs)) (over xs out)) .out) ≡ xs
     go true e = let z : _≡_ {A = ℕ} 0 1 = cc in absurd (omega arith)
     go false e = let l : length xs ≡ n = cc in rw (← l, take-append-seam)
 
-stored-room : (xs back : List ℕ) → length xs ≤ length back → stored xs back ≡ left (done (length xs)) (over xs back)
+stored-room : (xs back : List ℕ) → length xs ≤ length back → stored xs back ≡ outcome (done (length xs)) (over xs back)
 stored-room xs back h = sym (stored-all xs back (length xs) refl (over xs back) h refl)
 
 pub decodes-encoded : DecodesEncoded
 unfolding encoded decoded
 decodes-encoded cs out back n e h = go (allScalar cs) refl e
   where
-    go : (b : Bool) → allScalar cs ≡ b → cond b (stored (writing cs) out) (left (refused 1 0) out) .answer ≡ done n
-        → decoded (reading (take n (cond b (stored (writing cs) out) (left (refused 1 0) out) .out))) back ≡ left (done (length cs)) (over cs back)
+    go : (b : Bool) → allScalar cs ≡ b → cond b (stored (writing cs) out) (outcome (refused 1 0) out) .answer ≡ done n
+        → decoded (reading (take n (cond b (stored (writing cs) out) (outcome (refused 1 0) out) .out))) back ≡ outcome (done (length cs)) (over cs back)
     go true a e = rw (stored-done (writing cs) out n e, reads-written cs a) (stored-room cs back h)
     go false a e = let z : _≡_ {A = ℕ} 0 1 = cc in absurd (omega arith)
 
@@ -136,6 +160,6 @@ pub encodes-decoded : EncodesDecoded
 unfolding encoded decoded
 encodes-decoded s out back n e h = go (reading s) refl e
   where
-    go : (r : Reading) → reading s ≡ r → decoded r out .answer ≡ done n → encoded (take n (decoded r out .out)) back ≡ left (done (length s)) (over s back)
+    go : (r : Reading) → reading s ≡ r → decoded r out .answer ≡ done n → encoded (take n (decoded r out .out)) back ≡ outcome (done (length s)) (over s back)
     go (scalars cs) q e = let w = writes-read s cs q in rw (stored-done cs out n e, w .0, w .1) (stored-room s back h)
     go (badAt k) q e = let z : _≡_ {A = ℕ} 0 1 = cc in absurd (omega arith)

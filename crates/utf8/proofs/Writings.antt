@@ -1,20 +1,20 @@
 -- A whole slice written, scalar by scalar.
 use mathlib.Core.Path.{_≡_, refl, sym, ap, _∙_}
 use mathlib.Core.Bool.{Bool, true, false, cond}
-use mathlib.Core.List.{List, [], _++_}
+use mathlib.Core.List.{List, _++_}
 use Prim.Native.Nat.{ℕ, _+_, _≤_, _<_}
 use native.Mathlib.Nat.{add-zero, zero-add}
 use native.Mathlib.Omega.{arith}
 use lib.ListN.{length, take, drop, getD, length-append, length-drop, drop-of-length-le}
-use lib.Seq.{sets, take-length}
+use lib.Seq.{sets}
 use Rattle.promise.specs.Paper.{Paper, done, refused}
 use Rattle.utf8.specs.Rfc3629.{scalar, octets}
 use Rattle.utf8.specs.Reading.{allScalar, writing}
-use Rattle.utf8.specs.Calls.{left, over, stored, sequenceOf, octetsIn, octetCount, encoded}
-use Rattle.utf8.proofs.Taken.{both}
-use Rattle.utf8.proofs.Steps.{next-1}
+use Rattle.utf8.specs.Calls.{outcome, over, stored, sequenceOf, octetsIn, octetCount, encoded}
+use Rattle.promise.proofs.Bools.{both}
+use Rattle.promise.proofs.Lists.{next}
 use Rattle.utf8.proofs.Numbers.{octets-len}
-use Rattle.utf8.proofs.Stores.{stored-not, stored-all, stored-more, stored-rest}
+use Rattle.utf8.proofs.Stores.{stored-not, stored-all, stored-more, stored-rest, stored-end}
 
 -- the octets that a sequence has tell whether its value is a scalar
 pub no-octets : (c : ℕ) → length (octetsIn (sequenceOf c)) ≡ 0 → scalar c ≡ false
@@ -53,11 +53,11 @@ module _ (cs : List ℕ) (i k n : ℕ) (h : i < length cs) (e : n ≡ length (oc
       let f : n ≡ length (octets (getD cs i 0)) = e ∙ ap length (octets-in (getD cs i 0) s) in
       let r : List ℕ = writing (drop (i + 1) cs) in
       let g : k + length (octets (getD cs i 0) ++ r) ≡ k + n + length r = simp length-append (omega arith) in
-      (omega (arith, octets-len (getD cs i 0) .1), rw (← g) (rw (next-1 cs i h, s) at inv))
+      (omega (arith, octets-len (getD cs i 0) .1), rw (← g) (rw (next cs i h, s) at inv))
 
   pub count-bad : n ≡ 0 → refused 1 0 ≡ octetCount cs
   unfolding allScalar
-  count-bad z = rw (next-1 cs i h, no-octets (getD cs i 0) (sym e ∙ z)) at inv
+  count-bad z = rw (next cs i h, no-octets (getD cs i 0) (sym e ∙ z)) at inv
 
 pub count-all : (cs : List ℕ) (i k : ℕ) → length cs ≤ i → counting k (drop i cs) ≡ octetCount cs → done k ≡ octetCount cs
 unfolding allScalar writing
@@ -68,11 +68,11 @@ module _ (cs b t : List ℕ) (i at : ℕ) (p : Paper (List ℕ)) (h : i < length
     (all : allScalar (drop i cs) ≡ true) (d : drop at (writing cs) ≡ writing (drop i cs)) (room : length (writing cs) ≤ length b) where
   fill-next : (scalar (getD cs i 0) ≡ true) × (allScalar (drop (i + 1) cs) ≡ true)
   unfolding allScalar
-  fill-next = both (scalar (getD cs i 0)) (allScalar (drop (i + 1) cs)) (rw (next-1 cs i h) at all)
+  fill-next = both (scalar (getD cs i 0)) (allScalar (drop (i + 1) cs)) (rw (next cs i h) at all)
 
   fill-octets : drop at (writing cs) ≡ octetsIn p ++ writing (drop (i + 1) cs)
   unfolding writing
-  fill-octets = d ∙ rw (next-1 cs i h, e, octets-in (getD cs i 0) (fill-next .0))
+  fill-octets = d ∙ rw (next cs i h, e, octets-in (getD cs i 0) (fill-next .0))
 
   pub fill-room : at + length (octetsIn p) ≤ length (writing cs)
   fill-room =
@@ -96,17 +96,14 @@ module _ (cs b t : List ℕ) (i at : ℕ) (p : Paper (List ℕ)) (h : i < length
 pub fill-all : (cs b t : List ℕ) (i at : ℕ) → length cs ≤ i → drop at (writing cs) ≡ writing (drop i cs) → at ≤ length (writing cs)
     → t ≡ take at (writing cs) ++ drop at b → t ≡ over (writing cs) b
 unfolding writing
-fill-all cs b t i at h d l inv =
-    let e : drop at (writing cs) ≡ [] = d ∙ rw (drop-of-length-le cs h) in
-    let n : at ≡ length (writing cs) = omega (arith, simp length-drop at (ap length e)) in
-    rw (inv, n, take-length)
+fill-all cs b t i at h d l inv = stored-end (writing cs) b t at inv (d ∙ rw (drop-of-length-le cs h)) l
 
 -- The whole call: what was counted decides it.
-pub encode-bad : (cs b : List ℕ) → refused 1 0 ≡ octetCount cs → left (refused 1 0) b ≡ encoded cs b
+pub encode-bad : (cs b : List ℕ) → refused 1 0 ≡ octetCount cs → outcome (refused 1 0) b ≡ encoded cs b
 unfolding octetCount encoded
 encode-bad cs b e = go (allScalar cs) e
   where
-    go : (x : Bool) → refused 1 0 ≡ cond x (done (length (writing cs))) (refused 1 0) → left (refused 1 0) b ≡ cond x (stored (writing cs) b) (left (refused 1 0) b)
+    go : (x : Bool) → refused 1 0 ≡ cond x (done (length (writing cs))) (refused 1 0) → outcome (refused 1 0) b ≡ cond x (stored (writing cs) b) (outcome (refused 1 0) b)
     go true e = let z : _≡_ {A = ℕ} 0 1 = cc in absurd (omega arith)
     go false e = refl
 
@@ -123,8 +120,8 @@ module _ (cs b : List ℕ) (n : ℕ) (e : done n ≡ octetCount cs) where
   unfolding encoded
   encoded-octets = rw (counted-done cs n e .0)
 
-  pub encode-full : length b < n → left (refused 8 0) b ≡ encoded cs b
+  pub encode-full : length b < n → outcome (refused 8 0) b ≡ encoded cs b
   encode-full h = rw encoded-octets (stored-not (writing cs) b n (counted-done cs n e .1) h)
 
-  pub encode-all : (t : List ℕ) → n ≤ length b → t ≡ over (writing cs) b → left (done n) t ≡ encoded cs b
+  pub encode-all : (t : List ℕ) → n ≤ length b → t ≡ over (writing cs) b → outcome (done n) t ≡ encoded cs b
   encode-all t h f = rw encoded-octets (stored-all (writing cs) b n (counted-done cs n e .1) t h f)

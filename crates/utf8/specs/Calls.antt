@@ -10,20 +10,20 @@ use Rattle.utf8.specs.Rfc3629.{Range, taken, number, scalar, octets}
 use Rattle.utf8.specs.Reading.{Reading, scalars, badAt, allScalar, writing}
 
 -- the answer, and the lent slice at exit
-pub record Left : Type 0 where
+pub record Outcome : Type 0 where
   pub answer : Paper ℕ
   pub out : List ℕ
 
-abbrev pub left : Paper ℕ → List ℕ → Left
-left a o = record { answer = a; out = o }
+abbrev pub outcome : Paper ℕ → List ℕ → Outcome
+outcome a o = record { answer = a; out = o }
 
 -- the slice with xs at its front; "later places keep their contents"
 abbrev pub over : List ℕ → List ℕ → List ℕ
 over xs out = xs ++ drop (length xs) out
 
 -- xs goes to the slice, or 8 where it is longer
-unfoldable pub stored : List ℕ → List ℕ → Left
-stored xs out = cond (ltb (length out) (length xs)) (left (refused 8 0) out) (left (done (length xs)) (over xs out))
+unfoldable pub stored : List ℕ → List ℕ → Outcome
+stored xs out = cond (ltb (length out) (length xs)) (outcome (refused 8 0) out) (outcome (done (length xs)) (over xs out))
 
 -- read_scalar, by a rule of the ABNF: of n octets s at offset `at`
 unfoldable pub stepped : ℕ → List ℕ → ℕ → Paper (ℕ × ℕ)
@@ -39,9 +39,9 @@ counted (scalars cs) = done (length cs)
 counted (badAt k) = refused 5 k
 
 -- decode: 5, then 8
-unfoldable pub decoded : Reading → List ℕ → Left
+unfoldable pub decoded : Reading → List ℕ → Outcome
 decoded (scalars cs) out = stored cs out
-decoded (badAt k) out = left (refused 5 k) out
+decoded (badAt k) out = outcome (refused 5 k) out
 
 -- sequence_of
 unfoldable pub sequenceOf : ℕ → Paper (List ℕ)
@@ -52,8 +52,8 @@ unfoldable pub octetCount : List ℕ → Paper ℕ
 octetCount cs = cond (allScalar cs) (done (length (writing cs))) (refused 1 0)
 
 -- encode: 1, then 8
-unfoldable pub encoded : List ℕ → List ℕ → Left
-encoded cs out = cond (allScalar cs) (stored (writing cs) out) (left (refused 1 0) out)
+unfoldable pub encoded : List ℕ → List ℕ → Outcome
+encoded cs out = cond (allScalar cs) (stored (writing cs) out) (outcome (refused 1 0) out)
 
 -- What the workers below the calls speak of: the scalars of well-formed octets, and that they fit n places.
 unfoldable pub scalarsOf : Reading → List ℕ

@@ -1,4 +1,5 @@
 pub mod Rfc3629
+pub mod Lead
 pub mod Reading
 pub mod Answers
 pub mod Calls

@@ -3,7 +3,7 @@
 use mathlib.Core.Bool.{Bool, true, false, cond, _&&_, _||_}
 use mathlib.Core.List.{List, [], _∷_, _++_}
 use Prim.Native.Nat.{ℕ, _+_, _*_, _/_, _%_}
-use lib.Dec.{leb, eqb}
+use lib.Dec.{leb}
 use lib.ListN.{length}
 
 -- Section 4, the ABNF. `%xLOW-HIGH` is a range of octets, and a rule is a list of alternatives, each a range for each
@@ -59,11 +59,6 @@ begins (r ∷ rs) (x ∷ s) = within r x && begins rs s
 unfoldable pub taken : List (List Range) → List ℕ → ℕ
 taken [] s = 0
 taken (row ∷ rows) s = cond (begins row s) (length row) (taken rows s)
-
--- Document 01: "The lead byte's count of leading one bits gives the sequence length; zero ones mean one byte, one or over
--- four are ill-formed."
-unfoldable pub announced : ℕ → List (List Range)
-announced ones = cond (eqb ones 0) UTF8-1 (cond (eqb ones 2) UTF8-2 (cond (eqb ones 3) UTF8-3 (cond (eqb ones 4) UTF8-4 [])))
 
 -- Section 3: "characters from the U+0000..U+10FFFF range", and "The definition of UTF-8 prohibits encoding character
 -- numbers between U+D800 and U+DFFF".

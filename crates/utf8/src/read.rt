@@ -1,4 +1,4 @@
-// Reading.
+// Octets to scalars.
 use crate::ByteOffset;
 use crate::Decoded;
 use crate::ScalarCount;
@@ -9,10 +9,11 @@ ghost use mathlib.Core.List.{List, [], _∷_, _++_};
 ghost use Prim.Native.Nat.{ℕ, _-_, _≤_, _<_};
 ghost use lib.Count.{leadingZeros};
 ghost use lib.ListN.{length, drop};
-ghost use Rattle.utf8.specs.Rfc3629.{UTF8-2, UTF8-3, UTF8-4, UTF8-char, taken, number, announced};
+ghost use Rattle.utf8.specs.Rfc3629.{UTF8-tail, UTF8-2, UTF8-3, UTF8-4, UTF8-char, begins, taken, number};
+ghost use Rattle.utf8.specs.Lead.{announced};
 ghost use Rattle.utf8.specs.Reading.{Reading, reading};
 ghost use Rattle.utf8.specs.Answers.{paperStep, paperScalarCount, paperDecoded};
-ghost use Rattle.utf8.specs.Calls.{left, over, stepBy, scalarsOf, fillable, counted, decoded};
+ghost use Rattle.utf8.specs.Calls.{outcome, over, stepBy, scalarsOf, fillable, counted, decoded};
 
 fn wide(x: u8) -> u32
     ensures { λ r. ⌜ r ≡ x ⌝ }
@@ -26,66 +27,66 @@ fn leading_ones(x: u8) -> u32
     u8::leading_zeros(!x)
 }
 
-// UTF8-2, with its one row of ranges.
+// UTF8-2
 fn is_two(a: u8, b: u8) -> bool
     ensures { λ r. ⌜ ((s : List ℕ) → taken UTF8-2 (a ∷ b ∷ s) ≡ cond r 2 0) ⌝ }
 {
     (0xC2 <= a) & (a <= 0xDF) & (0x80 <= b) & (b <= 0xBF)
 }
 
-// UTF8-3, a line for each of its rows.
+// A row of UTF8-3: the ends of its first and of its second range, and the octets held to it.
+fn row_three(low: u8, high: u8, low2: u8, high2: u8, a: u8, b: u8, c: u8) -> bool
+    ensures { λ r. ⌜ ((s : List ℕ) → begins ((low, high) ∷ (low2, high2) ∷ UTF8-tail ∷ []) (a ∷ b ∷ c ∷ s) ≡ r) ⌝ }
+{
+    (low <= a) & (a <= high) & (low2 <= b) & (b <= high2) & (0x80 <= c) & (c <= 0xBF)
+}
+
+// UTF8-3
 fn is_three(a: u8, b: u8, c: u8) -> bool
     ensures { λ r. ⌜ ((s : List ℕ) → taken UTF8-3 (a ∷ b ∷ c ∷ s) ≡ cond r 3 0) ⌝ }
 {
-    ((0xE0 <= a) & (a <= 0xE0) & (0xA0 <= b) & (b <= 0xBF) & (0x80 <= c) & (c <= 0xBF))
-        | ((0xE1 <= a) & (a <= 0xEC) & (0x80 <= b) & (b <= 0xBF) & (0x80 <= c) & (c <= 0xBF))
-        | ((0xED <= a) & (a <= 0xED) & (0x80 <= b) & (b <= 0x9F) & (0x80 <= c) & (c <= 0xBF))
-        | ((0xEE <= a) & (a <= 0xEF) & (0x80 <= b) & (b <= 0xBF) & (0x80 <= c) & (c <= 0xBF))
+    row_three(0xE0, 0xE0, 0xA0, 0xBF, a, b, c)
+        | row_three(0xE1, 0xEC, 0x80, 0xBF, a, b, c)
+        | row_three(0xED, 0xED, 0x80, 0x9F, a, b, c)
+        | row_three(0xEE, 0xEF, 0x80, 0xBF, a, b, c)
 }
 
-// UTF8-4, a line for each of its rows.
-fn is_four(a: u8, b: u8, c: u8, d: u8) -> bool
-    ensures { λ r. ⌜ ((s : List ℕ) → taken UTF8-4 (a ∷ b ∷ c ∷ d ∷ s) ≡ cond r 4 0) ⌝ }
+// A row of UTF8-4: the ends of its first and of its second range, and the octets held to it.
+fn row_four(low: u8, high: u8, low2: u8, high2: u8, a: u8, b: u8, c: u8, d: u8) -> bool
+    ensures { λ r. ⌜ ((s : List ℕ) → begins ((low, high) ∷ (low2, high2) ∷ UTF8-tail ∷ UTF8-tail ∷ []) (a ∷ b ∷ c ∷ d ∷ s) ≡ r) ⌝ }
 {
-    ((0xF0 <= a)
-        & (a <= 0xF0)
-        & (0x90 <= b)
-        & (b <= 0xBF)
+    (low <= a)
+        & (a <= high)
+        & (low2 <= b)
+        & (b <= high2)
         & (0x80 <= c)
         & (c <= 0xBF)
         & (0x80 <= d)
-        & (d <= 0xBF))
-        | ((0xF1 <= a)
-            & (a <= 0xF3)
-            & (0x80 <= b)
-            & (b <= 0xBF)
-            & (0x80 <= c)
-            & (c <= 0xBF)
-            & (0x80 <= d)
-            & (d <= 0xBF))
-        | ((0xF4 <= a)
-            & (a <= 0xF4)
-            & (0x80 <= b)
-            & (b <= 0x8F)
-            & (0x80 <= c)
-            & (c <= 0xBF)
-            & (0x80 <= d)
-            & (d <= 0xBF))
+        & (d <= 0xBF)
 }
 
-fn two(a: u8, b: u8) -> u32
+// UTF8-4
+fn is_four(a: u8, b: u8, c: u8, d: u8) -> bool
+    ensures { λ r. ⌜ ((s : List ℕ) → taken UTF8-4 (a ∷ b ∷ c ∷ d ∷ s) ≡ cond r 4 0) ⌝ }
+{
+    row_four(0xF0, 0xF0, 0x90, 0xBF, a, b, c, d)
+        | row_four(0xF1, 0xF3, 0x80, 0xBF, a, b, c, d)
+        | row_four(0xF4, 0xF4, 0x80, 0x8F, a, b, c, d)
+}
+
+fn number_of_two(a: u8, b: u8) -> u32
     ensures { λ r. ⌜ r ≡ number (a ∷ b ∷ []) ⌝ }
 {
     wide(a) % 32 * 64 + wide(b) % 64
 }
 
-fn three(a: u8, b: u8, c: u8) -> u32
+fn number_of_three(a: u8, b: u8, c: u8) -> u32
     ensures { λ r. ⌜ r ≡ number (a ∷ b ∷ c ∷ []) ⌝ }
 {
     (wide(a) % 16 * 64 + wide(b) % 64) * 64 + wide(c) % 64
 }
 
-fn four(a: u8, b: u8, c: u8, d: u8) -> u32
+fn number_of_four(a: u8, b: u8, c: u8, d: u8) -> u32
     ensures { λ r. ⌜ r ≡ number (a ∷ b ∷ c ∷ d ∷ []) ⌝ }
 {
     ((wide(a) % 8 * 64 + wide(b) % 64) * 64 + wide(c) % 64) * 64 + wide(d) % 64
@@ -102,7 +103,7 @@ fn read_two(bytes: &[u8], start: usize) -> Step
     let b = bytes[start + 1];
     if is_two(a, b) {
         Step::Scalar {
-            value: two(a, b),
+            value: number_of_two(a, b),
             next: ByteOffset(start + 2),
         }
     } else {
@@ -122,7 +123,7 @@ fn read_three(bytes: &[u8], start: usize) -> Step
     let c = bytes[start + 2];
     if is_three(a, b, c) {
         Step::Scalar {
-            value: three(a, b, c),
+            value: number_of_three(a, b, c),
             next: ByteOffset(start + 3),
         }
     } else {
@@ -143,7 +144,7 @@ fn read_four(bytes: &[u8], start: usize) -> Step
     let d = bytes[start + 3];
     if is_four(a, b, c, d) {
         Step::Scalar {
-            value: four(a, b, c, d),
+            value: number_of_four(a, b, c, d),
             next: ByteOffset(start + 4),
         }
     } else {
@@ -191,20 +192,16 @@ pub fn count_scalars(bytes: &[u8]) -> ScalarCount
     let mut at = ByteOffset(0);
     while at.0 < bytes.len() {
         let start = at.0;
-        let lead = bytes[start];
-        let step = if lead <= 0x7F {
-            Step::Scalar {
-                value: wide(lead),
-                next: ByteOffset(start + 1),
-            }
+        if bytes[start] <= 0x7F {
+            at = ByteOffset(start + 1);
+            count += 1;
         } else {
-            read_scalar(bytes, at)
-        };
-        let Step::Scalar { value: _, next } = step else {
-            return ScalarCount::BadUtf8(at);
-        };
-        at = next;
-        count += 1;
+            let Step::Scalar { value: _, next } = read_scalar(bytes, at) else {
+                return ScalarCount::BadUtf8(at);
+            };
+            at = next;
+            count += 1;
+        }
     }
     ScalarCount::Scalars(count)
 }
@@ -219,26 +216,24 @@ fn fill_scalars(bytes: &[u8], out: &mut [u32])
     while at.0 < bytes.len() {
         let start = at.0;
         let lead = bytes[start];
-        let step = if lead <= 0x7F {
-            Step::Scalar {
-                value: wide(lead),
-                next: ByteOffset(start + 1),
-            }
+        if lead <= 0x7F {
+            out[count] = wide(lead);
+            at = ByteOffset(start + 1);
+            count += 1;
         } else {
-            read_scalar(bytes, at)
-        };
-        let Step::Scalar { value, next } = step else {
-            return;
-        };
-        out[count] = value;
-        at = next;
-        count += 1;
+            let Step::Scalar { value, next } = read_scalar(bytes, at) else {
+                return;
+            };
+            out[count] = value;
+            at = next;
+            count += 1;
+        }
     }
 }
 
 // All the scalars of the bytes, to the front of `out`.
 pub fn decode(bytes: &[u8], out: &mut [u32]) -> Decoded
-    ensures { λ r. ⌜ left (paperDecoded r) (now (out .exit)) ≡ decoded (reading (now (bytes .entry))) (now (out .entry)) ⌝ }
+    ensures { λ r. ⌜ outcome (paperDecoded r) (now (out .exit)) ≡ decoded (reading (now (bytes .entry))) (now (out .entry)) ⌝ }
 {
     let counted = count_scalars(bytes);
     match counted {

@@ -1,4 +1,4 @@
-// Writing.
+// Scalars to octets.
 use crate::ByteOffset;
 use crate::Encoded;
 use crate::OctetCount;
@@ -11,7 +11,7 @@ ghost use lib.Seq.{sets};
 ghost use Rattle.utf8.specs.Rfc3629.{scalar};
 ghost use Rattle.utf8.specs.Reading.{allScalar, writing};
 ghost use Rattle.utf8.specs.Answers.{paperSequence, paperOctetCount, paperEncoded};
-ghost use Rattle.utf8.specs.Calls.{left, over, octetsIn, sequenceOf, octetCount, encoded};
+ghost use Rattle.utf8.specs.Calls.{outcome, over, octetsIn, sequenceOf, octetCount, encoded};
 
 fn is_scalar(value: u32) -> bool
     ensures { λ r. ⌜ r ≡ scalar value ⌝ }
@@ -132,7 +132,7 @@ fn fill_octets(scalars: &[u32], out: &mut [u8])
 
 // All the octets of the scalars, to the front of `out`.
 pub fn encode(scalars: &[u32], out: &mut [u8]) -> Encoded
-    ensures { λ r. ⌜ left (paperEncoded r) (now (out .exit)) ≡ encoded (now (scalars .entry)) (now (out .entry)) ⌝ }
+    ensures { λ r. ⌜ outcome (paperEncoded r) (now (out .exit)) ≡ encoded (now (scalars .entry)) (now (out .entry)) ⌝ }
 {
     let counted = count_octets(scalars);
     match counted {

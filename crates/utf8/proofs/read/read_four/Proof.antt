@@ -39,15 +39,15 @@ shared-slice-read-d c = search needs
 is-four-requires : tie.Need-is-four-requires
 is-four-requires c κs = search needs
 
-four-requires : tie.Need-four-requires
-four-requires c κs = search needs
+number-of-four-requires : tie.Need-number-of-four-requires
+number-of-four-requires c κs = search needs
 
 add-t19 : tie.Need-add-t19
 add-t19 c = search needs
 
 returns-2 : tie.Need-returns-2
 returns-2 c = let s = c .before .before .before .before .before .before .before .before .before .args .bytes .now in let i = c .before .before .before .before .before .before .before .before .before .args .start in
-    found UTF8-4 s (getD s i 0 ∷ getD s (i + 1) 0 ∷ getD s (i + 2) 0 ∷ getD s (i + 3) 0 ∷ []) (drop (i + 4) s) i 3 _ (next-4 s i (omega arith)) refl (c .before .before .is-four .ensures (drop (i + 4) s)) _ (c .before .if2 .taken) (c .four .ensures)
+    found UTF8-4 s (getD s i 0 ∷ getD s (i + 1) 0 ∷ getD s (i + 2) 0 ∷ getD s (i + 3) 0 ∷ []) (drop (i + 4) s) i 3 _ (next-4 s i (omega arith)) refl (c .before .before .is-four .ensures (drop (i + 4) s)) _ (c .before .if2 .taken) (c .number-of-four .ensures)
 
 returns-3 : tie.Need-returns-3
 returns-3 c = let s = c .before .before .before .before .before .before .before .before .args .bytes .now in let i = c .before .before .before .before .before .before .before .before .args .start in
@@ -67,7 +67,7 @@ read-four-spec =
     add-d
     shared-slice-read-d
     is-four-requires
-    four-requires
+    number-of-four-requires
     add-t19
     returns-2
     returns-3)

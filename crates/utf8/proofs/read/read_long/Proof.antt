@@ -1,6 +1,6 @@
 use borrow.Author.Needs.{needs}
 use Rattle.utf8.proofs.Steps.{unannounced}
-use Rattle.utf8.specs.Rfc3629.{announced}
+use Rattle.utf8.specs.Lead.{announced}
 use Rattle.utf8.proofs.read.read_long.Statement.{statement}
 use Rattle.utf8.proofs.read.read_long.Tie as tie
 

@@ -33,15 +33,15 @@ shared-slice-read-c c = search needs
 is-three-requires : tie.Need-is-three-requires
 is-three-requires c κs = search needs
 
-three-requires : tie.Need-three-requires
-three-requires c κs = search needs
+number-of-three-requires : tie.Need-number-of-three-requires
+number-of-three-requires c κs = search needs
 
 add-t17 : tie.Need-add-t17
 add-t17 c = search needs
 
 returns-2 : tie.Need-returns-2
 returns-2 c = let s = c .before .before .before .before .before .before .before .before .args .bytes .now in let i = c .before .before .before .before .before .before .before .before .args .start in
-    found UTF8-3 s (getD s i 0 ∷ getD s (i + 1) 0 ∷ getD s (i + 2) 0 ∷ []) (drop (i + 3) s) i 2 _ (next-3 s i (omega arith)) refl (c .before .before .is-three .ensures (drop (i + 3) s)) _ (c .before .if2 .taken) (c .three .ensures)
+    found UTF8-3 s (getD s i 0 ∷ getD s (i + 1) 0 ∷ getD s (i + 2) 0 ∷ []) (drop (i + 3) s) i 2 _ (next-3 s i (omega arith)) refl (c .before .before .is-three .ensures (drop (i + 3) s)) _ (c .before .if2 .taken) (c .number-of-three .ensures)
 
 returns-3 : tie.Need-returns-3
 returns-3 c = let s = c .before .before .before .before .before .before .before .args .bytes .now in let i = c .before .before .before .before .before .before .before .args .start in
@@ -59,7 +59,7 @@ read-three-spec =
     add-c
     shared-slice-read-c
     is-three-requires
-    three-requires
+    number-of-three-requires
     add-t17
     returns-2
     returns-3)

@@ -27,15 +27,15 @@ shared-slice-read-b c = search needs
 is-two-requires : tie.Need-is-two-requires
 is-two-requires c κs = search needs
 
-two-requires : tie.Need-two-requires
-two-requires c κs = search needs
+number-of-two-requires : tie.Need-number-of-two-requires
+number-of-two-requires c κs = search needs
 
 add-t15 : tie.Need-add-t15
 add-t15 c = search needs
 
 returns-2 : tie.Need-returns-2
 returns-2 c = let s = c .before .before .before .before .before .before .before .args .bytes .now in let i = c .before .before .before .before .before .before .before .args .start in
-    found UTF8-2 s (getD s i 0 ∷ getD s (i + 1) 0 ∷ []) (drop (i + 2) s) i 1 _ (next-2 s i (omega arith)) refl (c .before .before .is-two .ensures (drop (i + 2) s)) _ (c .before .if2 .taken) (c .two .ensures)
+    found UTF8-2 s (getD s i 0 ∷ getD s (i + 1) 0 ∷ []) (drop (i + 2) s) i 1 _ (next-2 s i (omega arith)) refl (c .before .before .is-two .ensures (drop (i + 2) s)) _ (c .before .if2 .taken) (c .number-of-two .ensures)
 
 returns-3 : tie.Need-returns-3
 returns-3 c = let s = c .before .before .before .before .before .before .args .bytes .now in let i = c .before .before .before .before .before .before .args .start in
@@ -51,7 +51,7 @@ read-two-spec =
     add-b
     shared-slice-read-b
     is-two-requires
-    two-requires
+    number-of-two-requires
     add-t15
     returns-2
     returns-3)

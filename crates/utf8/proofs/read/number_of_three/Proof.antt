@@ -1,7 +1,7 @@
 use borrow.Author.Needs.{needs}
 use Rattle.utf8.specs.Rfc3629.{number}
-use Rattle.utf8.proofs.read.three.Statement.{statement}
-use Rattle.utf8.proofs.read.three.Tie as tie
+use Rattle.utf8.proofs.read.number_of_three.Statement.{statement}
+use Rattle.utf8.proofs.read.number_of_three.Tie as tie
 
 wide-requires : tie.Need-wide-requires
 wide-requires c κs = search needs
@@ -28,8 +28,8 @@ returns : tie.Need-returns
 unfolding number
 returns c = rw (c .before .before .wide .ensures, c .before .wide2 .ensures, c .wide3 .ensures)
 
-pub three-spec : {M : Type 1} → statement M
-three-spec =
+pub number-of-three-spec : {M : Type 1} → statement M
+number-of-three-spec =
     tie.close
     (tie.spec
     wide-requires

@@ -1,7 +1,7 @@
 use borrow.Author.Needs.{needs}
 use Rattle.utf8.specs.Rfc3629.{number}
-use Rattle.utf8.proofs.read.four.Statement.{statement}
-use Rattle.utf8.proofs.read.four.Tie as tie
+use Rattle.utf8.proofs.read.number_of_four.Statement.{statement}
+use Rattle.utf8.proofs.read.number_of_four.Tie as tie
 
 wide-requires : tie.Need-wide-requires
 wide-requires c κs = search needs
@@ -37,8 +37,8 @@ returns : tie.Need-returns
 unfolding number
 returns c = rw (c .before .before .before .wide .ensures, c .before .before .wide2 .ensures, c .before .wide3 .ensures, c .wide4 .ensures)
 
-pub four-spec : {M : Type 1} → statement M
-four-spec =
+pub number-of-four-spec : {M : Type 1} → statement M
+number-of-four-spec =
     tie.close
     (tie.spec
     wide-requires

@@ -1,7 +1,7 @@
 use borrow.Author.Needs.{needs}
 use Rattle.utf8.specs.Rfc3629.{number}
-use Rattle.utf8.proofs.read.two.Statement.{statement}
-use Rattle.utf8.proofs.read.two.Tie as tie
+use Rattle.utf8.proofs.read.number_of_two.Statement.{statement}
+use Rattle.utf8.proofs.read.number_of_two.Tie as tie
 
 wide-requires : tie.Need-wide-requires
 wide-requires c κs = search needs
@@ -19,5 +19,5 @@ returns : tie.Need-returns
 unfolding number
 returns c = rw (c .before .wide .ensures, c .wide2 .ensures)
 
-pub two-spec : {M : Type 1} → statement M
-two-spec = tie.close (tie.spec wide-requires mul-result wide-requires-2 add-result returns)
+pub number-of-two-spec : {M : Type 1} → statement M
+number-of-two-spec = tie.close (tie.spec wide-requires mul-result wide-requires-2 add-result returns)

@@ -1,0 +1,11 @@
+-- Laws of lists that the toolchain's library lacks.
+use mathlib.Core.Path.{_≡_}
+use mathlib.Core.List.{List, _∷_}
+use Prim.Native.Nat.{ℕ, _+_, _<_}
+use native.Mathlib.Numerals.{add-one}
+use lib.ListN.{length, drop, getD}
+use lib.Seq.{drop-cons}
+
+-- a scan's turn: what stands at i, and what is left
+pub next : (s : List ℕ) (i : ℕ) → i < length s → drop i s ≡ getD s i 0 ∷ drop (i + 1) s
+next s i h = rw (add-one, drop-cons s i 0)
