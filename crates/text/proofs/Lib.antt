@@ -3,3 +3,4 @@ pub mod Places
 pub mod Scans
 pub mod Boxes
 pub mod Texts
+pub mod Theorems

@@ -10,7 +10,8 @@ use lib.Seq.{drop-drop, drop-cons}
 use Rattle.promise.specs.Paper.{Paper, done, refused}
 use Rattle.utf8.specs.Rfc3629.{UTF8-char, taken, number}
 use Rattle.utf8.specs.Reading.{Reading, scalars, badAt, prepend, readFrom, reading}
-use Rattle.utf8.specs.Calls.{outcome, over, stored, stepped, stepBy, counted, decoded, scalarsOf, fillable}
+use Rattle.promise.specs.Slices.{over}
+use Rattle.utf8.specs.Calls.{outcome, stored, stepped, stepBy, counted, decoded, scalarsOf, fillable}
 use Rattle.utf8.proofs.Stores.{stored-not, stored-all, stored-more, stored-end}
 use Rattle.utf8.proofs.Taken.{taken-le}
 

@@ -7,7 +7,8 @@ use borrow.Author.Tests.{lt-ltb, le-ltb}
 use lib.ListN.{length, take, drop, length-append, length-take, length-drop}
 use lib.Seq.{take-length, sets, sets-eq, take-at, take-add, drop-drop, drop-append-add, take-append-seam, drop-append-seam, length-take-le}
 use Rattle.promise.specs.Paper.{done, refused}
-use Rattle.utf8.specs.Calls.{outcome, over, stored}
+use Rattle.promise.specs.Slices.{over}
+use Rattle.utf8.specs.Calls.{outcome, stored}
 
 module _ (xs b : List ℕ) (n : ℕ) (e : length xs ≡ n) where
   pub stored-not : length b < n → outcome (refused 8 0) b ≡ stored xs b

@@ -11,7 +11,8 @@ use lib.Seq.{take-append-seam, drop-append-seam, drop-nil}
 use Rattle.promise.specs.Paper.{done, refused}
 use Rattle.utf8.specs.Rfc3629.{UTF8-char, taken, number, scalar, octets}
 use Rattle.utf8.specs.Reading.{Reading, scalars, badAt, prepend, readFrom, reading, allScalar, writing}
-use Rattle.utf8.specs.Calls.{outcome, over, stored, decoded, encoded}
+use Rattle.promise.specs.Slices.{over}
+use Rattle.utf8.specs.Calls.{outcome, stored, decoded, encoded}
 use Rattle.utf8.specs.Theorems.{ReadsWritten, WritesRead, DecodesEncoded, EncodesDecoded, BadPlace, RefusesThere, LeadAnnounces}
 use Rattle.promise.proofs.Bools.{both}
 use Rattle.utf8.proofs.Taken.{taken-le}

@@ -10,7 +10,8 @@ use lib.Seq.{sets}
 use Rattle.promise.specs.Paper.{Paper, done, refused}
 use Rattle.utf8.specs.Rfc3629.{scalar, octets}
 use Rattle.utf8.specs.Reading.{allScalar, writing}
-use Rattle.utf8.specs.Calls.{outcome, over, stored, sequenceOf, octetsIn, octetCount, encoded}
+use Rattle.promise.specs.Slices.{over}
+use Rattle.utf8.specs.Calls.{outcome, stored, sequenceOf, octetsIn, octetCount, encoded}
 use Rattle.promise.proofs.Bools.{both}
 use Rattle.promise.proofs.Lists.{next}
 use Rattle.utf8.proofs.Numbers.{octets-len}

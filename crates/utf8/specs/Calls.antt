@@ -6,6 +6,7 @@ use Prim.Native.Nat.{ℕ, zero, suc, _+_, _≤_}
 use lib.Dec.{ltb}
 use lib.ListN.{length, take, drop}
 use Rattle.promise.specs.Paper.{Paper, done, refused}
+use Rattle.promise.specs.Slices.{over}
 use Rattle.utf8.specs.Rfc3629.{Range, taken, number, scalar, octets}
 use Rattle.utf8.specs.Reading.{Reading, scalars, badAt, allScalar, writing}
 
@@ -16,10 +17,6 @@ pub record Outcome : Type 0 where
 
 abbrev pub outcome : Paper ℕ → List ℕ → Outcome
 outcome a o = record { answer = a; out = o }
-
--- the slice with xs at its front; "later places keep their contents"
-abbrev pub over : List ℕ → List ℕ → List ℕ
-over xs out = xs ++ drop (length xs) out
 
 -- xs goes to the slice, or 8 where it is longer
 unfoldable pub stored : List ℕ → List ℕ → Outcome

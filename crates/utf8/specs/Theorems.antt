@@ -13,7 +13,8 @@ use Rattle.utf8.specs.Rfc3629.{UTF8-char, taken}
 use Rattle.utf8.specs.Lead.{announced}
 use Rattle.utf8.specs.Reading.{scalars, badAt, reading, allScalar, writing}
 use Rattle.utf8.specs.Answers.{paperStep, paperScalarCount, paperDecoded, paperSequence, paperOctetCount, paperEncoded}
-use Rattle.utf8.specs.Calls.{outcome, over, decoded, encoded}
+use Rattle.promise.specs.Slices.{over}
+use Rattle.utf8.specs.Calls.{outcome, decoded, encoded}
 
 -- The table of section 3 and the ABNF of section 4 say the same: octets are well formed, and of the scalars cs, exactly
 -- where they are what cs is written as.

@@ -13,7 +13,8 @@ ghost use Rattle.utf8.specs.Rfc3629.{UTF8-tail, UTF8-2, UTF8-3, UTF8-4, 
 ghost use Rattle.utf8.specs.Lead.{announced};
 ghost use Rattle.utf8.specs.Reading.{Reading, reading};
 ghost use Rattle.utf8.specs.Answers.{paperStep, paperScalarCount, paperDecoded};
-ghost use Rattle.utf8.specs.Calls.{outcome, over, stepBy, scalarsOf, fillable, counted, decoded};
+ghost use Rattle.promise.specs.Slices.{over};
+ghost use Rattle.utf8.specs.Calls.{outcome, stepBy, scalarsOf, fillable, counted, decoded};
 
 fn wide(x: u8) -> u32
     ensures { λ r. ⌜ r ≡ x ⌝ }

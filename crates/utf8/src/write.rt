@@ -11,7 +11,8 @@ ghost use lib.Seq.{sets};
 ghost use Rattle.utf8.specs.Rfc3629.{scalar};
 ghost use Rattle.utf8.specs.Reading.{allScalar, writing};
 ghost use Rattle.utf8.specs.Answers.{paperSequence, paperOctetCount, paperEncoded};
-ghost use Rattle.utf8.specs.Calls.{outcome, over, octetsIn, sequenceOf, octetCount, encoded};
+ghost use Rattle.promise.specs.Slices.{over};
+ghost use Rattle.utf8.specs.Calls.{outcome, octetsIn, sequenceOf, octetCount, encoded};
 
 fn is_scalar(value: u32) -> bool
     ensures { λ r. ⌜ r ≡ scalar value ⌝ }

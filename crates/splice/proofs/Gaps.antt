@@ -1,0 +1,77 @@
+-- A gap opened and closed, from the moves that do it.
+use mathlib.Core.Path.{_≡_, ap₂, _∙_, subst}
+use mathlib.Core.List.{List, [], _++_, append-assoc, append-nil}
+use Prim.Native.Nat.{ℕ, _+_, _-_, _≤_, max}
+use native.Mathlib.Nat.{zero-add}
+use native.Mathlib.Omega.{arith}
+use lib.ListN.{length, take, drop, replicate, length-append, length-take, length-drop, drop-of-length-le}
+use lib.Seq.{take-all, take-at, drop-at, take-length, take-take, drop-drop, drop-append-add, paste, length-take-le}
+use Rattle.promise.proofs.Lists.{drop-take}
+use Rattle.text.specs.Text.{spliced, renewed}
+use Rattle.splice.specs.Splice.{Gap, gap, gapClosed, cleared}
+
+-- what a lender holds after its part from index a on has come back as y
+tail-whole : (b : List ℕ) (a : ℕ) → take (length b - a) (drop a b) ≡ drop a b
+tail-whole b a = take-all (length b - a) (drop a b) (simp length-drop (omega arith))
+
+tail-back : (b y : List ℕ) (a : ℕ) → take a b ++ (y ++ drop (length b - a) (drop a b)) ≡ take a b ++ y
+tail-back b y a =
+    let l : length (drop a b) ≤ length b - a = simp length-drop (omega arith) in
+    rw (drop-of-length-le (drop a b) l, append-nil)
+
+module _ (b y t : List ℕ) (used at : ℕ) (p : List ℕ) (h : at ≤ used) (room : used + length p ≤ length b) where
+  opened : y ≡ paste (take (length b - at) (drop at b)) (length p) (take (length b - at) (drop at b)) (used - at)
+      → t ≡ paste (take at b ++ (y ++ drop (length b - at) (drop at b))) at p (length p)
+      → t ≡ take at b ++ (p ++ (take (used - at) (drop at b) ++ drop (used + length p) b))
+  opened ey et =
+      let d : List ℕ = drop at b in
+      let w : ℕ = used - at in
+      let n : ℕ = length p in
+      let la : length (take at b) ≡ at = length-take-le at b (omega arith) in
+      let ln : length (take at b ++ take n d) ≡ at + n = simp (length-append, length-take, length-drop) (omega arith) in
+      let e₁ : at + (n + w) ≡ used + n = omega arith in
+      let e₂ : take at b ++ (take n d ++ take w d ++ drop (n + w) d) ≡ (take at b ++ take n d) ++ (take w d ++ drop (n + w) d) = simp append-assoc in
+      rw (et, tail-back, ey, tail-whole, take-at (take at b) _ at la, take-length, e₂, drop-at _ _ (at + n) ln, drop-drop, e₁) (simp append-assoc)
+
+  -- the text with p in it, and what is kept behind
+  open-renewed : take at b ++ (p ++ (take (used - at) (drop at b) ++ drop (used + length p) b)) ≡ renewed b used (spliced (take used b) at at p)
+  unfolding renewed
+  open-renewed =
+      let l : length (take at b ++ (p ++ take (used - at) (drop at b))) ≡ used + length p = simp (length-append, length-take, length-drop) (omega arith) in
+      let z : used - (used + length p) ≡ 0 = omega arith in
+      let m : max used (used + length p) ≡ used + length p = omega arith in
+      rw (drop-take at used b, take-take at used b h, l, z, m) (simp append-assoc)
+
+  pub gap-opened : y ≡ paste (take (length b - at) (drop at b)) (length p) (take (length b - at) (drop at b)) (used - at)
+      → t ≡ paste (take at b ++ (y ++ drop (length b - at) (drop at b))) at p (length p) → t ≡ renewed b used (spliced (take used b) at at p)
+  gap-opened ey et = opened ey et ∙ open-renewed
+
+module _ (b y t : List ℕ) (used a e : ℕ) (h : a ≤ e) (k : e ≤ used) (room : used ≤ length b) where
+  closed : y ≡ take (used - e) (drop (e - a) (take (length b - a) (drop a b))) ++ drop (used - e) (take (length b - a) (drop a b))
+      → t ≡ cleared (take a b ++ (y ++ drop (length b - a) (drop a b))) (a + (used - e)) (e - a)
+      → t ≡ take a b ++ (take (used - e) (drop e b) ++ (replicate (e - a) 0 ++ drop used b))
+  closed ey et =
+      let w : ℕ = used - e in
+      let n : ℕ = e - a in
+      let e₁ : a + n ≡ e = omega arith in
+      let e₂ : a + (w + n) ≡ used = omega arith in
+      let P : List ℕ = take a b ++ take w (drop e b) in
+      let lp : length P ≡ a + w = simp (length-append, length-take, length-drop) (omega arith) in
+      let e₃ : drop (a + w + n) (P ++ drop w (drop a b)) ≡ drop used b =
+      subst (λ (m : ℕ). drop (m + n) (P ++ drop w (drop a b)) ≡ drop used b) lp (drop-append-add P (drop w (drop a b)) n ∙ rw (drop-drop, drop-drop, e₂)) in
+      rw (et, tail-back, ey, tail-whole, drop-drop, e₁, ← append-assoc (take a b), take-at P _ (a + w) lp, e₃) (simp append-assoc)
+
+  close-renewed : take a b ++ (take (used - e) (drop e b) ++ (replicate (e - a) 0 ++ drop used b)) ≡ renewed b used (spliced (take used b) a e [])
+  unfolding renewed
+  close-renewed =
+      let l : length (take a b ++ take (used - e) (drop e b)) ≡ a + (used - e) = simp (length-append, length-take, length-drop) (omega arith) in
+      let z : used - (a + (used - e)) ≡ e - a = omega arith in
+      let m : max used (a + (used - e)) ≡ used = omega arith in
+      rw (drop-take e used b, take-take a used b (omega arith), l, z, m) (simp append-assoc)
+
+  pub gap-closed : (out c : List ℕ) → c ≡ paste out 0 (take (e - a) (drop a b)) (length (take (e - a) (drop a b)))
+      → y ≡ take (used - e) (drop (e - a) (take (length b - a) (drop a b))) ++ drop (used - e) (take (length b - a) (drop a b))
+      → t ≡ cleared (take a b ++ (y ++ drop (length b - a) (drop a b))) (a + (used - e)) (e - a)
+      → gap t c ≡ gapClosed b used a e out
+  gap-closed out c ec ey et =
+      ap₂ {C = Gap} gap (closed ey et ∙ close-renewed) (ec ∙ rw (take-length, zero-add, drop-take a e b))
