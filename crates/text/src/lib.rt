@@ -56,7 +56,7 @@ impl Col {
     pub fn min(self, other: Col) -> Col
         ensures { λ r. ⌜ r .0 ≡ min (self .0) (other .0) ⌝ }
     {
-        if self.0 <= other.0 { self } else { other }
+        if other.0 < self.0 { other } else { self }
     }
 }
 

@@ -46,7 +46,7 @@ fn try_lines(text: &[u8]) -> Tally
         let end = line.end;
         if is_vector(&text[start..end]) {
             count += 1;
-            passed += one_if(vector::comes_out(&text[start..end]));
+            passed += one_if(vector::holds(&text[start..end]));
         }
         start = line.next;
     }

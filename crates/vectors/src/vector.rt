@@ -43,20 +43,6 @@ fn narrow(numbers: &[u32], out: &mut [u8]) -> bool {
     true
 }
 
-fn done(count: usize) -> Said {
-    Said {
-        number: 0,
-        value: count,
-    }
-}
-
-fn no_room() -> Said {
-    Said {
-        number: 8,
-        value: 0,
-    }
-}
-
 // Each way with room to spare, with just enough, and with one place less than that.
 fn both_ways(bytes: &[u8], scalars: &[u32]) -> bool {
     decodes(bytes, scalars) && encodes(scalars, bytes)
@@ -64,44 +50,34 @@ fn both_ways(bytes: &[u8], scalars: &[u32]) -> bool {
 
 fn decodes(bytes: &[u8], scalars: &[u32]) -> bool {
     let count = scalars.len();
-    if !decode_gives(bytes, ROOM, done(count), scalars) {
+    if !decode_gives(bytes, ROOM, Said::done(count), scalars) {
         return false;
     }
-    if !decode_gives(bytes, count, done(count), scalars) {
+    if !decode_gives(bytes, count, Said::done(count), scalars) {
         return false;
     }
     if count == 0 {
         return true;
     }
-    decode_gives(bytes, count - 1, no_room(), &scalars[0..0])
+    decode_gives(bytes, count - 1, Said::refused(8, 0), &scalars[0..0])
 }
 
 fn encodes(scalars: &[u32], bytes: &[u8]) -> bool {
     let count = bytes.len();
-    if !encode_gives(scalars, ROOM, done(count), bytes) {
+    if !encode_gives(scalars, ROOM, Said::done(count), bytes) {
         return false;
     }
-    if !encode_gives(scalars, count, done(count), bytes) {
+    if !encode_gives(scalars, count, Said::done(count), bytes) {
         return false;
     }
     if count == 0 {
         return true;
     }
-    encode_gives(scalars, count - 1, no_room(), &bytes[0..0])
+    encode_gives(scalars, count - 1, Said::refused(8, 0), &bytes[0..0])
 }
 
-fn bad_utf8(offset: u32) -> Said {
-    Said {
-        number: 5,
-        value: offset as usize,
-    }
-}
-
-fn bad_text() -> Said {
-    Said {
-        number: 1,
-        value: 0,
-    }
+fn wide(x: u32) -> usize {
+    x as usize
 }
 
 // A refusal for what the input holds comes before one for want of room.
@@ -109,13 +85,14 @@ fn refused_at(bytes: &[u8], offset: &[u32]) -> bool {
     if offset.len() != 1 {
         return false;
     }
-    let at = offset[0];
-    decode_gives(bytes, ROOM, bad_utf8(at), &offset[0..0])
-        && decode_gives(bytes, 0, bad_utf8(at), &offset[0..0])
+    let at = wide(offset[0]);
+    decode_gives(bytes, ROOM, Said::refused(5, at), &offset[0..0])
+        && decode_gives(bytes, 0, Said::refused(5, at), &offset[0..0])
 }
 
 fn refused(scalars: &[u32]) -> bool {
-    encode_gives(scalars, ROOM, bad_text(), b"") && encode_gives(scalars, 0, bad_text(), b"")
+    encode_gives(scalars, ROOM, Said::refused(1, 0), b"")
+        && encode_gives(scalars, 0, Said::refused(1, 0), b"")
 }
 
 fn judge(mark: u8, left: &[u32], right: &[u32]) -> bool {
@@ -135,7 +112,7 @@ fn judge(mark: u8, left: &[u32], right: &[u32]) -> bool {
 }
 
 // Whether a vector's line is well formed, and what it says is so.
-pub fn comes_out(line: &[u8]) -> bool {
+pub(crate) fn holds(line: &[u8]) -> bool {
     let mark = mark_place(line);
     if mark == line.len() {
         return false;

@@ -32,17 +32,17 @@ is-vector-requires c κs = search needs
 add-count : tie.Need-add-count Inv-loop μ-loop
 add-count c = search needs
 
-sub-comes-out : tie.Need-sub-comes-out Inv-loop μ-loop
-sub-comes-out c = search needs
+sub-holds : tie.Need-sub-holds Inv-loop μ-loop
+sub-holds c = search needs
 
-part-comes-out-start : tie.Need-part-comes-out-start Inv-loop μ-loop
-part-comes-out-start c = search needs
+part-holds-start : tie.Need-part-holds-start Inv-loop μ-loop
+part-holds-start c = search needs
 
-part-comes-out-end : tie.Need-part-comes-out-end Inv-loop μ-loop
-part-comes-out-end c = search needs
+part-holds-end : tie.Need-part-holds-end Inv-loop μ-loop
+part-holds-end c = search needs
 
-comes-out-requires : tie.Need-comes-out-requires Inv-loop μ-loop
-comes-out-requires c κs = search needs
+holds-requires : tie.Need-holds-requires Inv-loop μ-loop
+holds-requires c κs = search needs
 
 one-if-requires : tie.Need-one-if-requires Inv-loop μ-loop
 one-if-requires c κs = search needs
@@ -78,10 +78,10 @@ try-lines-spec =
     part-is-vector-end
     is-vector-requires
     add-count
-    sub-comes-out
-    part-comes-out-start
-    part-comes-out-end
-    comes-out-requires
+    sub-holds
+    part-holds-start
+    part-holds-end
+    holds-requires
     one-if-requires
     add-passed
     loop-less
