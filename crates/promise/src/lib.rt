@@ -1,1 +1,1 @@
-// What every promise of the house is made of: definitions and one law, in specs/. No code.
+// What every promise is made of: definitions in specs/, laws in proofs/. No code.

@@ -4,11 +4,12 @@ use mathlib.Core.List.{List, [], _++_, append-assoc, append-nil}
 use Prim.Native.Nat.{ℕ, _+_, _-_, _≤_, max}
 use native.Mathlib.Nat.{zero-add}
 use native.Mathlib.Omega.{arith}
-use lib.ListN.{length, take, drop, replicate, length-append, length-take, length-drop, drop-of-length-le}
+use lib.ListN.{length, take, drop, replicate, length-append, length-take, length-drop, length-replicate, drop-of-length-le}
 use lib.Seq.{take-all, take-at, drop-at, take-length, take-take, drop-drop, drop-append-add, paste, length-take-le}
 use Rattle.promise.proofs.Lists.{drop-take}
-use Rattle.text.specs.Text.{spliced, renewed}
-use Rattle.splice.specs.Splice.{Gap, gap, gapClosed, cleared}
+use Rattle.text.specs.Rows.{spliced}
+use Rattle.text.specs.Text.{renewed}
+use Rattle.splice.specs.Splice.{gapOpened, Gap, gap, gapClosed}
 
 -- what a lender holds after its part from index a on has come back as y
 tail-whole : (b : List ℕ) (a : ℕ) → take (length b - a) (drop a b) ≡ drop a b
@@ -19,9 +20,16 @@ tail-back b y a =
     let l : length (drop a b) ≤ length b - a = simp length-drop (omega arith) in
     rw (drop-of-length-le (drop a b) l, append-nil)
 
+-- the tail y after its move up, and the buffer t after the payload went in
+module _ (b y t : List ℕ) (used at : ℕ) (p : List ℕ) where
+  abbrev pub MovedUp : Type 0
+  MovedUp = y ≡ paste (take (length b - at) (drop at b)) (length p) (take (length b - at) (drop at b)) (used - at)
+
+  abbrev pub Filled : Type 0
+  Filled = t ≡ paste (take at b ++ (y ++ drop (length b - at) (drop at b))) at p (length p)
+
 module _ (b y t : List ℕ) (used at : ℕ) (p : List ℕ) (h : at ≤ used) (room : used + length p ≤ length b) where
-  opened : y ≡ paste (take (length b - at) (drop at b)) (length p) (take (length b - at) (drop at b)) (used - at)
-      → t ≡ paste (take at b ++ (y ++ drop (length b - at) (drop at b))) at p (length p)
+  opened : MovedUp b y t used at p → Filled b y t used at p
       → t ≡ take at b ++ (p ++ (take (used - at) (drop at b) ++ drop (used + length p) b))
   opened ey et =
       let d : List ℕ = drop at b in
@@ -42,13 +50,19 @@ module _ (b y t : List ℕ) (used at : ℕ) (p : List ℕ) (h : at ≤ used) (ro
       let m : max used (used + length p) ≡ used + length p = omega arith in
       rw (drop-take at used b, take-take at used b h, l, z, m) (simp append-assoc)
 
-  pub gap-opened : y ≡ paste (take (length b - at) (drop at b)) (length p) (take (length b - at) (drop at b)) (used - at)
-      → t ≡ paste (take at b ++ (y ++ drop (length b - at) (drop at b))) at p (length p) → t ≡ renewed b used (spliced (take used b) at at p)
+  pub gap-opened : MovedUp b y t used at p → Filled b y t used at p → t ≡ gapOpened b used at p
   gap-opened ey et = opened ey et ∙ open-renewed
 
+-- the tail y after its move down, and the buffer t after the places behind it were cleared
+module _ (b y t : List ℕ) (used a e : ℕ) where
+  abbrev pub MovedDown : Type 0
+  MovedDown = y ≡ take (used - e) (drop (e - a) (take (length b - a) (drop a b))) ++ drop (used - e) (take (length b - a) (drop a b))
+
+  abbrev pub Cleared : Type 0
+  Cleared = t ≡ paste (take a b ++ (y ++ drop (length b - a) (drop a b))) (a + (used - e)) (replicate (e - a) 0) (e - a)
+
 module _ (b y t : List ℕ) (used a e : ℕ) (h : a ≤ e) (k : e ≤ used) (room : used ≤ length b) where
-  closed : y ≡ take (used - e) (drop (e - a) (take (length b - a) (drop a b))) ++ drop (used - e) (take (length b - a) (drop a b))
-      → t ≡ cleared (take a b ++ (y ++ drop (length b - a) (drop a b))) (a + (used - e)) (e - a)
+  closed : MovedDown b y t used a e → Cleared b y t used a e
       → t ≡ take a b ++ (take (used - e) (drop e b) ++ (replicate (e - a) 0 ++ drop used b))
   closed ey et =
       let w : ℕ = used - e in
@@ -59,7 +73,7 @@ module _ (b y t : List ℕ) (used a e : ℕ) (h : a ≤ e) (k : e ≤ used) (roo
       let lp : length P ≡ a + w = simp (length-append, length-take, length-drop) (omega arith) in
       let e₃ : drop (a + w + n) (P ++ drop w (drop a b)) ≡ drop used b =
       subst (λ (m : ℕ). drop (m + n) (P ++ drop w (drop a b)) ≡ drop used b) lp (drop-append-add P (drop w (drop a b)) n ∙ rw (drop-drop, drop-drop, e₂)) in
-      rw (et, tail-back, ey, tail-whole, drop-drop, e₁, ← append-assoc (take a b), take-at P _ (a + w) lp, e₃) (simp append-assoc)
+      rw (et, tail-back, ey, tail-whole, drop-drop, e₁, ← append-assoc (take a b), take-at P _ (a + w) lp, e₃, take-all n (replicate {A = ℕ} n 0) (rw (length-replicate {A = ℕ} n 0) (omega arith))) (simp append-assoc)
 
   close-renewed : take a b ++ (take (used - e) (drop e b) ++ (replicate (e - a) 0 ++ drop used b)) ≡ renewed b used (spliced (take used b) a e [])
   unfolding renewed
@@ -70,8 +84,7 @@ module _ (b y t : List ℕ) (used a e : ℕ) (h : a ≤ e) (k : e ≤ used) (roo
       rw (drop-take e used b, take-take a used b (omega arith), l, z, m) (simp append-assoc)
 
   pub gap-closed : (out c : List ℕ) → c ≡ paste out 0 (take (e - a) (drop a b)) (length (take (e - a) (drop a b)))
-      → y ≡ take (used - e) (drop (e - a) (take (length b - a) (drop a b))) ++ drop (used - e) (take (length b - a) (drop a b))
-      → t ≡ cleared (take a b ++ (y ++ drop (length b - a) (drop a b))) (a + (used - e)) (e - a)
+      → MovedDown b y t used a e → Cleared b y t used a e
       → gap t c ≡ gapClosed b used a e out
   gap-closed out c ec ey et =
       ap₂ {C = Gap} gap (closed ey et ∙ close-renewed) (ec ∙ rw (take-length, zero-add, drop-take a e b))

@@ -1,13 +1,12 @@
 -- The turns of the loops that move places: a law speaks of the present list t by the invariant's equation.
-use mathlib.Core.Path.{_≡_, sym, _∙_, subst}
+use mathlib.Core.Path.{_≡_, sym, ap, _∙_, subst}
 use mathlib.Core.List.{List, [], _∷_, _++_, append-assoc}
 use Prim.Native.Nat.{ℕ, zero, suc, _+_, _-_, _≤_, _<_}
 use native.Mathlib.Nat.{add-zero, add-suc}
 use native.Mathlib.Numerals.{add-one, sub-one}
 use native.Mathlib.Omega.{arith}
-use lib.ListN.{length, take, drop, getD, set, replicate, length-append, length-take, length-drop, length-replicate, take-append-drop, replicate-append-replicate, List·getD-append}
+use lib.ListN.{length, take, drop, getD, set, replicate, length-take, length-drop, length-replicate, getD-replicate, take-append-drop, List·getD-append}
 use lib.Seq.{paste, paste-suc, getD-append-add, slice, slice-empty, slice-cons, take-suc, drop-cons, append-snoc, set-at, getD-take, getD-drop, length-take-le}
-use Rattle.splice.specs.Splice.{cleared}
 
 -- a store at the seam of what is written, p, and what is left of b
 seam : (p b : List ℕ) (n a : ℕ) → length p ≡ n → n < length b → set (p ++ drop n b) n a ≡ (p ++ (a ∷ [])) ++ drop (suc n) b
@@ -56,12 +55,8 @@ pub paste-step : (d : List ℕ) (at : ℕ) (s : List ℕ) (j : ℕ) (t : List �
     → set t (at + j) (getD s j 0) ≡ paste d at s (j + 1)
 paste-step d at s j t e hd hs = rw (e, add-one) (paste-suc d at s j 0 hd hs)
 
--- places cleared from index at on
-pub clear-none : (b : List ℕ) (at : ℕ) → b ≡ cleared b at 0
-clear-none b at = sym (rw add-zero (take-append-drop at b))
-
-pub clear-step : (b : List ℕ) (at j : ℕ) (t : List ℕ) → t ≡ cleared b at j → at + j < length b → set t (at + j) 0 ≡ cleared b at (j + 1)
-clear-step b at j t e h =
-    let l : length (take at b ++ replicate j 0) ≡ at + j = simp (length-append, length-replicate, length-take) (omega arith) in
-    let m : at + (j + 1) ≡ suc (at + j) = omega arith in
-    rw (e, ← append-assoc (take at b), seam _ b (at + j) 0 l h, m, ← replicate-append-replicate {A = ℕ} j 1 0, append-assoc, append-assoc, append-assoc)
+-- so many zeros from index at on
+pub zero-step : (b : List ℕ) (at n j : ℕ) (t : List ℕ) → t ≡ paste b at (replicate n 0) j → at + j < length b → j < n → set t (at + j) 0 ≡ paste b at (replicate n 0) (j + 1)
+zero-step b at n j t e h k =
+    let l : j < length (replicate {A = ℕ} n 0) = rw (length-replicate {A = ℕ} n 0) k in
+    ap (set t (at + j)) (sym (getD-replicate {A = ℕ} n j 0 0 k)) ∙ paste-step b at (replicate n 0) j t e h l

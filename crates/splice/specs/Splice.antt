@@ -1,12 +1,17 @@
 -- What the splice leaves.
-use mathlib.Core.List.{List, [], _++_}
-use Prim.Native.Nat.{ℕ, _+_}
-use lib.ListN.{take, drop, replicate}
+use mathlib.Core.List.{List, []}
+use Prim.Native.Nat.{ℕ}
+use lib.ListN.{take}
 use lib.Seq.{slice}
 use Rattle.promise.specs.Slices.{over}
-use Rattle.text.specs.Text.{spliced, renewed}
+use Rattle.text.specs.Rows.{spliced}
+use Rattle.text.specs.Text.{renewed}
 
--- the text's buffer and the slice lent for what is cut
+-- open_gap: the buffer with p in its text at offset a
+abbrev pub gapOpened : List ℕ → ℕ → ℕ → List ℕ → List ℕ
+gapOpened buffer used a p = renewed buffer used (spliced (take used buffer) a a p)
+
+-- close_gap: the text's buffer, and the slice lent for what is cut
 pub record Gap : Type 0 where
   pub text : List ℕ
   pub cut : List ℕ
@@ -14,10 +19,5 @@ pub record Gap : Type 0 where
 abbrev pub gap : List ℕ → List ℕ → Gap
 gap t c = record { text = t; cut = c }
 
--- close_gap
 abbrev pub gapClosed : List ℕ → ℕ → ℕ → ℕ → List ℕ → Gap
 gapClosed buffer used a e out = gap (renewed buffer used (spliced (take used buffer) a e [])) (over (slice a e buffer) out)
-
--- n places from `at` on set to 0
-abbrev pub cleared : List ℕ → ℕ → ℕ → List ℕ
-cleared b at n = take at b ++ (replicate n 0 ++ drop (at + n) b)

@@ -2,13 +2,11 @@
 // below are for callers that have planned the splice and know that it fits.
 use text::CharOffset;
 ghost use mathlib.Core.Path.{_≡_};
-ghost use mathlib.Core.List.{[], _++_};
+ghost use mathlib.Core.List.{_++_};
 ghost use Prim.Native.Nat.{_+_, _-_, _≤_};
-ghost use lib.ListN.{length, take, drop};
+ghost use lib.ListN.{length, take, drop, replicate};
 ghost use lib.Seq.{paste};
-ghost use Rattle.promise.specs.Slices.{over};
-ghost use Rattle.text.specs.Text.{spliced, renewed};
-ghost use Rattle.splice.specs.Splice.{gap, gapClosed, cleared};
+ghost use Rattle.splice.specs.Splice.{gap, gapOpened, gapClosed};
 
 // Moves the first `count` places up by `by`.
 fn shift_up(tail: &mut [u32], count: usize, by: usize)
@@ -48,7 +46,7 @@ fn copy_in(to: &mut [u32], at: CharOffset, from: &[u32])
 
 fn clear(text: &mut [u32], at: CharOffset, count: usize)
     requires { ⌜ at .0 + count ≤ length (now text) ⌝ }
-    ensures { λ _. ⌜ now (text .exit) ≡ cleared (now (text .entry)) (at .0) count ⌝ }
+    ensures { λ _. ⌜ now (text .exit) ≡ paste (now (text .entry)) (at .0) (replicate count 0) count ⌝ }
 {
     let start = at.0;
     let mut i = 0;
@@ -61,7 +59,7 @@ fn clear(text: &mut [u32], at: CharOffset, count: usize)
 // Puts the payload in at `at`.
 pub fn open_gap(text: &mut [u32], used: usize, at: CharOffset, payload: &[u32])
     requires { ⌜ (at .0 ≤ used) × (used + length (now payload) ≤ length (now text)) ⌝ }
-    ensures { λ _. ⌜ now (text .exit) ≡ renewed (now (text .entry)) used (spliced (take used (now (text .entry))) (at .0) (at .0) (now (payload .entry))) ⌝ }
+    ensures { λ _. ⌜ now (text .exit) ≡ gapOpened (now (text .entry)) used (at .0) (now (payload .entry)) ⌝ }
 {
     let start = at.0;
     shift_up(&mut text[start..], used - start, payload.len());

@@ -14,7 +14,7 @@ use Rattle.text.specs.Rows.{Line, line, lines, onto, at}
 use Rattle.text.specs.Text.{isLF}
 use Rattle.text.specs.Answers.{Fit, allFit, leaves}
 use Rattle.text.specs.Calls.{firstOver}
-use Rattle.text.proofs.Lines.{lines-cons}
+use Rattle.text.proofs.Laws.{lines-cons}
 use Rattle.promise.proofs.Lists.{next}
 
 -- what is left of a text, at row r and after c characters of it

@@ -1,6 +1,6 @@
-pub mod Lines
-pub mod Places
+pub mod Laws
 pub mod Scans
 pub mod Boxes
 pub mod Texts
+pub mod Renewed
 pub mod Theorems

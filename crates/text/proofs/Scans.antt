@@ -9,8 +9,7 @@ use lib.ListN.{length, drop, getD, drop-of-length-le}
 use Rattle.promise.proofs.Lists.{next}
 use Rattle.text.specs.Rows.{lastRow, rowLen, rowStart}
 use Rattle.text.specs.Text.{isLF, admissible, allAdmissible}
-use Rattle.text.proofs.Lines.{start-lf, start-other, start-none, len-lf, len-other, len-none}
-use Rattle.text.proofs.Places.{last-lf, last-other, last-none}
+use Rattle.text.proofs.Laws.{start-lf, start-other, start-none, len-lf, len-other, len-none, last-lf, last-other, last-none}
 
 module _ (s : List ℕ) (i : ℕ) (h : i < length s) where
   pub last-at-lf : getD s i 0 ≡ 10 → lastRow isLF (drop i s) ≡ suc (lastRow isLF (drop (i + 1) s))

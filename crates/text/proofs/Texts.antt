@@ -1,4 +1,4 @@
--- The test of a text, and calls that refuse by it alone.
+-- The test of a text, calls that refuse by it alone, and places put together from their parts.
 use mathlib.Core.Path.{_≡_, sym, ap, ap₂, _∙_}
 use mathlib.Core.Bool.{Bool, true, false, not, _&&_}
 use mathlib.Core.List.{List}
@@ -11,10 +11,10 @@ use lib.ListN.{length, take, drop}
 use Rattle.promise.specs.Paper.{Paper, done, refused}
 use Rattle.promise.proofs.Bools.{both}
 use Rattle.text.specs.declared.Position.{Position}
-use Rattle.text.specs.Rows.{lastRow, rowLen, rowStart, clamp, offset, at}
-use Rattle.text.specs.Text.{isLF, allAdmissible, textOk, inText}
+use Rattle.text.specs.Rows.{lastRow, rowLen, rowStart, clamp, offset, inText, at}
+use Rattle.text.specs.Text.{isLF, allAdmissible, textOk}
 use Rattle.text.specs.Calls.{onText}
-use Rattle.text.proofs.Places.{len-le}
+use Rattle.text.proofs.Laws.{len-le}
 
 -- the used part, as it is lent
 pub front : (b : List ℕ) (used : ℕ) → take (used - 0) (drop 0 b) ≡ take used b
@@ -61,7 +61,7 @@ module _ (t : List ℕ) (p q : Position) (e : q ≡ clamp isLF t p) where
   unfolding offset
   offset-made n f = rw (f, e)
 
-  pub in-text-made : (eqb (q .row .0) (p .row .0) && eqb (q .col .0) (p .col .0)) ≡ inText t p
+  pub in-text-made : (eqb (q .row .0) (p .row .0) && eqb (q .col .0) (p .col .0)) ≡ inText isLF t p
   unfolding inText
   in-text-made = rw e
 

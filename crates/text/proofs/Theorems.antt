@@ -13,9 +13,9 @@ use Rattle.text.specs.declared.BoxFit.{BoxFit}
 use Rattle.text.specs.declared.BoxFit.the-variants as boxFit
 use Rattle.text.specs.Rows.{rowCount}
 use Rattle.text.specs.Answers.{paperClamped, Fit, allFit, leaves, paperBoxFit}
-use Rattle.text.specs.Theorems.{RowsKeep, countLF, RowsAreLFs, EndsAdd, AddingGroups, EndTake, OffsetEnd, Settled}
-use Rattle.text.proofs.Lines.{count-lf, count-other, count-none, unlines-lines}
-use Rattle.text.proofs.Places.{add-positions, end-append, offset-end, end-take}
+use Rattle.text.specs.Theorems.{RowsKeep, countLF, RowsAreLFs, EndsAdd, AddingGroups, EndTake, OffsetEnd, RowsWeld, Renews, RenewsTwice, Settled}
+use Rattle.text.proofs.Renewed.{renewed-text, renewed-length, renewed-twice}
+use Rattle.text.proofs.Laws.{lines-append, count-lf, count-other, count-none, unlines-lines, add-positions, end-append, offset-end, end-take}
 
 pub rows-keep : RowsKeep
 rows-keep A lf t = unlines-lines lf t
@@ -28,6 +28,15 @@ rows-are-lfs A lf (x ∷ t) = go (lf x) refl (rows-are-lfs A lf t)
     go : (b : Bool) → lf x ≡ b → rowCount lf t ≡ countLF lf t + 1 → rowCount lf (x ∷ t) ≡ cond b (suc (countLF lf t)) (countLF lf t) + 1
     go true e ih = let k = count-lf lf x t e in omega arith
     go false e ih = let k = count-other lf x t e in omega arith
+
+pub rows-weld : RowsWeld
+rows-weld A lf s u = lines-append lf s u
+
+pub renews : Renews
+renews b used u h k = (renewed-text b used u, renewed-length b used u h k)
+
+pub renews-twice : RenewsTwice
+renews-twice = renewed-twice
 
 pub ends-add : EndsAdd
 ends-add A lf s u = end-append lf s u

@@ -3,10 +3,10 @@ use mathlib.Core.Bool.{Bool, cond, _&&_, _||_}
 use mathlib.Core.List.{List, [], _∷_, _++_}
 use Prim.Native.Nat.{ℕ, _+_, _-_, min}
 use lib.Dec.{eqb, leb, ltb}
-use lib.ListN.{length, take, getD}
+use lib.ListN.{length, take, drop, getD}
 use Rattle.text.specs.declared.Position.{Position}
 
--- a row: what stands in it, and the LF that ends it, if one does
+-- a row: what stands in it, and what ends it: its LF, or nothing
 pub record Line (A : Type 0) : Type 0 where
   pub body : List A
   pub after : List A
@@ -15,7 +15,7 @@ module _ {A : Type 0} where
   abbrev pub line : List A → List A → Line A
   line b a = record { body = b; after = a }
 
-  -- an element more at the front of the first row
+  -- an element more at the front of the first row (a text has one)
   unfoldable pub onto : A → List (Line A) → List (Line A)
   onto x [] = line (x ∷ []) [] ∷ []
   onto x (r ∷ rs) = line (x ∷ r .body) (r .after) ∷ rs
@@ -52,6 +52,7 @@ module _ {A : Type 0} (lf : A → Bool) where
   unfoldable pub rowCount : List A → ℕ
   rowCount t = length (lines lf t)
 
+  -- a text has a row, so this is the number of the last
   unfoldable pub lastRow : List A → ℕ
   lastRow t = rowCount t - 1
 
@@ -71,6 +72,14 @@ module _ {A : Type 0} (lf : A → Bool) where
   unfoldable pub offset : List A → Position → ℕ
   offset t p = rowStart t (clamp t p .row .0) + clamp t p .col .0
 
-  -- the position where a text ends; that of the element after i others is the end of these
+  -- the position where a text ends; the element at index i stands at the end of the first i
   unfoldable pub endOf : List A → Position
   endOf t = at (lastRow t) (rowLen t (lastRow t))
+
+  -- "a position that this doesn't change is in the text"
+  unfoldable pub inText : List A → Position → Bool
+  inText t p = eqb (clamp t p .row .0) (p .row .0) && eqb (clamp t p .col .0) (p .col .0)
+
+-- the elements x in place of those from offset a up to e
+abbrev pub spliced : {A : Type 0} → List A → ℕ → ℕ → List A → List A
+spliced t a e x = take a t ++ (x ++ drop e t)

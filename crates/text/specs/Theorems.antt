@@ -2,11 +2,12 @@
 use mathlib.Core.Bool.{Bool, cond}
 use mathlib.Core.List.{List, [], _∷_, _++_}
 use mathlib.Core.Path.{_≡_}
-use Prim.Native.Nat.{ℕ, suc, _+_}
+use Prim.Native.Nat.{ℕ, suc, _+_, _≤_, max}
 use lib.ListN.{length, take}
 use Rattle.promise.specs.Settled.{Settles}
 use Rattle.text.specs.declared.Position.{Position}
-use Rattle.text.specs.Rows.{lines, unlines, _⊕_, rowCount, clamp, offset, endOf}
+use Rattle.text.specs.Rows.{Line, line, lines, unlines, _⊕_, rowCount, clamp, offset, endOf}
+use Rattle.text.specs.Text.{renewed}
 use Rattle.text.specs.Answers.{paperClamped, paperBoxFit}
 
 -- Rows lose no element and make none.
@@ -20,6 +21,16 @@ countLF lf (x ∷ t) = cond (lf x) (suc (countLF lf t)) (countLF lf t)
 
 abbrev pub RowsAreLFs : Type 1
 RowsAreLFs = (A : Type 0) (lf : A → Bool) (t : List A) → rowCount lf t ≡ countLF lf t + 1
+
+-- The rows of two texts, one after the other: the last of the first runs on into the first of the second.
+unfoldable pub weld : {A : Type 0} → List (Line A) → List (Line A) → List (Line A)
+weld [] ys = ys
+weld (x ∷ []) [] = x ∷ []
+weld (x ∷ []) (y ∷ ys) = line (x .body ++ y .body) (y .after) ∷ ys
+weld (x ∷ x′ ∷ xs) ys = x ∷ weld (x′ ∷ xs) ys
+
+abbrev pub RowsWeld : Type 1
+RowsWeld = (A : Type 0) (lf : A → Bool) (s u : List A) → lines lf (s ++ u) ≡ weld (lines lf s) (lines lf u)
 
 -- Where texts end adds up, in any grouping.
 abbrev pub EndsAdd : Type 1
@@ -35,6 +46,18 @@ EndTake = (A : Type 0) (lf : A → Bool) (t : List A) (p : Position) → endOf l
 
 abbrev pub OffsetEnd : Type 1
 OffsetEnd = (A : Type 0) (lf : A → Bool) (s u : List A) → offset lf (s ++ u) (endOf lf s) ≡ length s
+
+-- A buffer whose text was renewed holds that text, and is as long as it was.
+abbrev pub Renews : Type 0
+Renews =
+    (buffer : List ℕ) (used : ℕ) (u : List ℕ) → used ≤ length buffer → length u ≤ length buffer
+    → (take (length u) (renewed buffer used u) ≡ u) × (length (renewed buffer used u) ≡ length buffer)
+
+-- Renewed once more, it holds what it would have held at once, unless the text in between was the longest.
+abbrev pub RenewsTwice : Type 0
+RenewsTwice =
+    (buffer : List ℕ) (used : ℕ) (u w : List ℕ) → length u ≤ max used (length w) → used ≤ length buffer → length w ≤ length buffer
+    → renewed (renewed buffer used u) (length u) w ≡ renewed buffer used w
 
 -- Each public promise settles its answer. (Those of the other functions are equations for the answer itself.)
 pub record Settled : Type 0 where

@@ -2,6 +2,9 @@
 ghost use mathlib.Core.Path.{_≡_};
 ghost use Rattle.text.specs.Text.{admissible, allAdmissible, textOk};
 
+// The most characters that a text has.
+pub const TEXT_LIMIT: usize = 16_384;
+
 fn is_admissible(x: u32) -> bool
     ensures { λ r. ⌜ r ≡ admissible x ⌝ }
 {
@@ -29,7 +32,7 @@ pub fn is_text(buffer: &[u32], used: usize) -> bool
     if buffer.len() < used {
         return false;
     }
-    if 16384 < used {
+    if TEXT_LIMIT < used {
         return false;
     }
     all_admissible(&buffer[0..used])

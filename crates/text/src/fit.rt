@@ -10,20 +10,20 @@ ghost use Prim.Native.Nat.{_+_, _≤_, _<_};
 ghost use lib.ListN.{length};
 ghost use Rattle.promise.specs.Paper.{done};
 ghost use Rattle.text.specs.Rows.{lines};
-ghost use Rattle.text.specs.Text.{isLF};
+ghost use Rattle.text.specs.Text.{isLF, textLimit};
 ghost use Rattle.text.specs.Answers.{paperBoxFit};
 ghost use Rattle.text.specs.Calls.{firstOver, fitsIn};
 
-// How many cells of a row are taken once the character stands after `cell` others.
+// How many cells of a row are taken once the character stands after `cell` taken ones.
 fn cell_after(cell: u32, _character: u32) -> u32
-    requires { ⌜ cell < 16384 ⌝ }
+    requires { ⌜ cell < textLimit ⌝ }
     ensures { λ r. ⌜ r ≡ cell + 1 ⌝ }
 {
     cell + 1
 }
 
 fn first_over(text: &[u32], cells: u32) -> BoxFit
-    requires { ⌜ length (now text) ≤ 16384 ⌝ }
+    requires { ⌜ length (now text) ≤ textLimit ⌝ }
     ensures { λ r. ⌜ paperBoxFit r ≡ done (firstOver cells 0 (lines isLF (now (text .entry)))) ⌝ }
 {
     let mut answer = BoxFit::AllFit;

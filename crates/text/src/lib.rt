@@ -3,6 +3,7 @@ mod admit;
 mod fit;
 mod rows;
 
+pub use admit::TEXT_LIMIT;
 pub use admit::all_admissible;
 pub use admit::is_text;
 pub use fit::box_fit;

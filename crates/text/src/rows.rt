@@ -8,15 +8,15 @@ use crate::admit::is_text;
 ghost use mathlib.Core.Path.{_≡_};
 ghost use Prim.Native.Nat.{_≤_};
 ghost use lib.ListN.{length, drop};
-ghost use Rattle.text.specs.Rows.{rowCount, lastRow, rowLen, rowStart, clamp, offset};
-ghost use Rattle.text.specs.Text.{isLF, inText};
+ghost use Rattle.text.specs.Rows.{rowCount, lastRow, rowLen, rowStart, clamp, offset, inText};
+ghost use Rattle.text.specs.Text.{isLF, textLimit};
 ghost use Rattle.text.specs.Answers.{paperClamped};
 ghost use Rattle.text.specs.Calls.{clampedIn};
 
 pub const LF: u32 = 10;
 
 pub fn last_row(text: &[u32]) -> Row
-    requires { ⌜ length (now text) ≤ 16384 ⌝ }
+    requires { ⌜ length (now text) ≤ textLimit ⌝ }
     ensures { λ r. ⌜ r .0 ≡ lastRow isLF (now (text .entry)) ⌝ }
 {
     let mut count = 0;
@@ -31,7 +31,7 @@ pub fn last_row(text: &[u32]) -> Row
 }
 
 pub fn row_count(text: &[u32]) -> u32
-    requires { ⌜ length (now text) ≤ 16384 ⌝ }
+    requires { ⌜ length (now text) ≤ textLimit ⌝ }
     ensures { λ r. ⌜ r ≡ rowCount isLF (now (text .entry)) ⌝ }
 {
     last_row(text).0 + 1
@@ -73,25 +73,27 @@ fn run_len(text: &[u32], start: CharOffset) -> usize
 
 // The length of a row; 0 past the last row.
 pub fn line_char_count(text: &[u32], row: Row) -> Col
-    requires { ⌜ length (now text) ≤ 16384 ⌝ }
+    requires { ⌜ length (now text) ≤ textLimit ⌝ }
     ensures { λ r. ⌜ r .0 ≡ rowLen isLF (now (text .entry)) (row .0) ⌝ }
 {
     let start = line_to_char(text, row);
     Col(run_len(text, start) as u32)
 }
 
+// The position in an admitted text, clamped.
 pub fn clamp(text: &[u32], pos: Position) -> Position
-    requires { ⌜ length (now text) ≤ 16384 ⌝ }
+    requires { ⌜ length (now text) ≤ textLimit ⌝ }
     ensures { λ r. ⌜ r ≡ clamp isLF (now (text .entry)) pos ⌝ }
 {
     let row = pos.row.min(last_row(text));
-    let col = pos.col.min(line_char_count(text, row));
+    let end = line_char_count(text, row);
+    let col = pos.col.min(end);
     Position { row, col }
 }
 
 // The offset of a position, clamped.
 pub fn pos_to_char_idx(text: &[u32], pos: Position) -> CharOffset
-    requires { ⌜ length (now text) ≤ 16384 ⌝ }
+    requires { ⌜ length (now text) ≤ textLimit ⌝ }
     ensures { λ r. ⌜ r .0 ≡ offset isLF (now (text .entry)) pos ⌝ }
 {
     let inside = clamp(text, pos);
@@ -101,13 +103,14 @@ pub fn pos_to_char_idx(text: &[u32], pos: Position) -> CharOffset
 
 // Whether clamping leaves the position as it is.
 pub fn contains(text: &[u32], pos: Position) -> bool
-    requires { ⌜ length (now text) ≤ 16384 ⌝ }
-    ensures { λ r. ⌜ r ≡ inText (now (text .entry)) pos ⌝ }
+    requires { ⌜ length (now text) ≤ textLimit ⌝ }
+    ensures { λ r. ⌜ r ≡ inText isLF (now (text .entry)) pos ⌝ }
 {
     let inside = clamp(text, pos);
     (inside.row.0 == pos.row.0) & (inside.col.0 == pos.col.0)
 }
 
+// The same for any buffer and used length.
 pub fn clamp_position(buffer: &[u32], used: usize, pos: Position) -> Clamped
     ensures { λ r. ⌜ paperClamped r ≡ clampedIn (now (buffer .entry)) used pos ⌝ }
 {

@@ -2,20 +2,20 @@ use mathlib.Core.Path.{_≡_, refl}
 use Prim.Native.Nat.{_≤_, _-_}
 use native.Mathlib.Omega.{arith}
 use borrow.Author.Needs.{needs}
-use lib.ListN.{length, length-set}
-use Rattle.splice.proofs.Moves.{clear-none, clear-step}
-use Rattle.splice.specs.Splice.{cleared}
+use lib.ListN.{length, length-set, replicate}
+use lib.Seq.{paste, paste-zero}
+use Rattle.splice.proofs.Moves.{zero-step}
 use Rattle.splice.proofs.clear.Statement.{statement}
 use Rattle.splice.proofs.clear.Tie as tie
 
 abbrev Inv-loop : tie.InvT-loop
-Inv-loop text₀ count start i₀ text i = (i ≤ count) × (length text ≡ length text₀) × (text ≡ cleared text₀ start i)
+Inv-loop text₀ count start i₀ text i = (i ≤ count) × (length text ≡ length text₀) × (text ≡ paste text₀ start (replicate count 0) i)
 
 abbrev μ-loop : tie.MeasureT-loop
 μ-loop text₀ count start i₀ text i = count - i
 
 loop-holds : tie.Need-loop-holds Inv-loop μ-loop
-loop-holds c = (omega arith, refl, clear-none _ (c .args .at .0))
+loop-holds c = (omega arith, refl, paste-zero _ (c .args .at .0) (replicate (c .args .count) 0))
 
 add-text : tie.Need-add-text Inv-loop μ-loop
 add-text c = search needs
@@ -34,7 +34,7 @@ loop-less c = search needs
 
 loop-again : tie.Need-loop-again Inv-loop μ-loop
 loop-again c = let a = c .before .before .args in let l = c .before .loop in
-    (omega arith, simp length-set (omega arith), clear-step _ (a .at .0) (l .i) _ (l .inv .2) (omega arith))
+    (omega arith, simp length-set (omega arith), zero-step _ (a .at .0) (a .count) (l .i) _ (l .inv .2) (omega arith) (omega arith))
 
 same-length : tie.Need-same-length Inv-loop μ-loop
 same-length c = search needs

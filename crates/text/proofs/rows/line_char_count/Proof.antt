@@ -1,7 +1,7 @@
 use mathlib.Core.Path.{_∙_}
 use native.Mathlib.Omega.{arith}
 use borrow.Author.Needs.{needs}
-use Rattle.text.proofs.Places.{start-le, row-at, len-le}
+use Rattle.text.proofs.Laws.{start-le, row-at, len-le}
 use Rattle.text.specs.Text.{isLF}
 use Rattle.text.proofs.rows.line_char_count.Statement.{statement}
 use Rattle.text.proofs.rows.line_char_count.Tie as tie

@@ -4,7 +4,7 @@ use Prim.Native.Nat.{_≤_, _+_, _-_}
 use native.Mathlib.Omega.{arith}
 use borrow.Author.Needs.{needs}
 use lib.ListN.{length, drop}
-use Rattle.text.proofs.Lines.{start-first}
+use Rattle.text.proofs.Laws.{start-first}
 use Rattle.text.proofs.Scans.{start-at-lf, start-at-other, start-at-end}
 use Rattle.text.specs.Rows.{rowStart}
 use Rattle.text.specs.Text.{isLF}

@@ -1,6 +1,6 @@
 use native.Mathlib.Omega.{arith}
 use borrow.Author.Needs.{needs}
-use Rattle.text.proofs.Places.{start-le}
+use Rattle.text.proofs.Laws.{start-le}
 use Rattle.text.proofs.Texts.{offset-made, col-le}
 use Rattle.text.specs.Text.{isLF}
 use Rattle.text.proofs.rows.pos_to_char_idx.Statement.{statement}

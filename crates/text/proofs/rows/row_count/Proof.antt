@@ -1,6 +1,6 @@
 use native.Mathlib.Omega.{arith}
 use borrow.Author.Needs.{needs}
-use Rattle.text.proofs.Places.{last-le, count-last}
+use Rattle.text.proofs.Laws.{last-le, count-last}
 use Rattle.text.specs.Text.{isLF}
 use Rattle.text.proofs.rows.row_count.Statement.{statement}
 use Rattle.text.proofs.rows.row_count.Tie as tie
