@@ -13,9 +13,12 @@ isLF x = eqb x 10
 unfoldable pub admissible : ℕ → Bool
 admissible x = scalar x && not (within (0x0B, 0x0D) x || eqb x 0x85 || within (0x2028, 0x2029) x)
 
-unfoldable pub allAdmissible : List ℕ → Bool
-allAdmissible [] = true
-allAdmissible (x ∷ t) = admissible x && allAdmissible t
+unfoldable pub all : (ℕ → Bool) → List ℕ → Bool
+all f [] = true
+all f (x ∷ xs) = f x && all f xs
+
+abbrev pub allAdmissible : List ℕ → Bool
+allAdmissible t = all admissible t
 
 abbrev pub textLimit : ℕ
 textLimit = 16_384

@@ -1,0 +1,216 @@
+-- From texts to calls: what a call does with buffers and slices is what the edit does with the text.
+use mathlib.Core.Path.{_≡_, refl, sym, _∙_, ap, subst}
+use mathlib.Core.Bool.{Bool, true, false, not, _&&_}
+use mathlib.Core.List.{List, [], _∷_, _++_}
+use Prim.Native.Nat.{ℕ, _≤_}
+use native.Mathlib.Omega.{arith}
+use borrow.Author.Tests.{le-leb}
+use lib.Dec.{T, leb, leb→le}
+use lib.ListN.{length, take, drop, replicate, length-replicate}
+use lib.Seq.{take-append-seam, length-take-le}
+use Rattle.promise.specs.Paper.{Paper, done, refused}
+use Rattle.promise.specs.Slices.{over}
+use Rattle.text.specs.Text.{admissible, textOk, renewed, all}
+use Rattle.text.proofs.Renewed.{renewed-text, renewed-length}
+use Rattle.edit.specs.declared.View.{View}
+use Rattle.edit.specs.declared.Refusal.{Refusal}
+use Rattle.edit.specs.declared.Applied.{Applied}
+use Rattle.edit.specs.Edits.{Whole, Edited}
+use Rattle.edit.specs.Refusals.{short, smallOk, fewOk, payloadOk, withinOk, Room, roomOk, recordOk}
+use Rattle.edit.specs.Call.{numberOf, offsetOf, firstOf, Lent, Outcome, outcome, resultOf, roomOf, givenTests, resultTests, nextView, appliedAs, leaves, applied, isUndoable, undoable}
+use Rattle.edit.specs.Demand3.{State, text, Slices, RecordRoom, lentAt, called, after, returned, Accepted, AcceptedOnce}
+use Rattle.edit.proofs.Tests.{T-true, T-left, T-right}
+use Rattle.edit.proofs.Accepted.{doing, full, holds, Fine, Step}
+
+-- ---- a list of tests
+
+-- what is not refused passed the first test, and then the others
+passed : {A : Type 0} (b : Bool) (r : Refusal) (xs : List (Bool × Refusal)) (z : Paper A) (a : A) → firstOf ((not b, r) ∷ xs) z ≡ done a → T b × (firstOf xs z ≡ done a)
+unfolding firstOf
+passed true r xs z a e = (tt, e)
+passed false r xs z a e =
+    let w : refused (numberOf r) (offsetOf r) ≡ done a = e in
+    let z : true ≡ false = cc in
+    (subst T z tt, cc)
+
+none-left : {A : Type 0} (z y : Paper A) → firstOf [] z ≡ y → z ≡ y
+unfolding firstOf
+none-left z y e = e
+
+leaves-answer : (p : Paper Applied) (v : View) (l : Lent) (d : Edited ℕ) → leaves p v l d .answer ≡ p
+unfolding leaves
+leaves-answer (done a) v l d = refl
+leaves-answer (refused n k) v l d = refl
+
+-- ---- room
+
+text-holds : (b : List ℕ) (used : ℕ) → used ≤ length b → holds (length b) (take used b) ≡ textOk b used
+unfolding holds textOk
+text-holds b used h = rw (length-take-le used b h)
+
+text-used : (b : List ℕ) (used : ℕ) → T (textOk b used) → used ≤ length b
+unfolding textOk
+text-used b used h = leb→le used (length b) (T-left (leb used (length b)) (leb used 16384) (T-left (leb used (length b) && leb used 16384) (all admissible (take used b)) h))
+
+room-same : (n : ℕ) (R : Room) (u : List ℕ) → R .buffer ≡ n → T (roomOk (full n) u) → T (roomOk R u)
+unfolding roomOk
+room-same n R u e h = rw e h
+
+-- more room serves too
+record-more : (n : ℕ) (R : Room) (i : Whole ℕ) → n ≤ R .payload → 256 ≤ R .first → 256 ≤ R .second → T (recordOk (full n) i) → T (recordOk R i)
+unfolding recordOk
+record-more n R i p f s h =
+    let pf : T (leb (length (i .payload)) n && leb (length (i .first)) 256) = T-left (leb (length (i .payload)) n && leb (length (i .first)) 256) (leb (length (i .second)) 256) h in
+    let a : length (i .payload) ≤ n = leb→le (length (i .payload)) n (T-left (leb (length (i .payload)) n) (leb (length (i .first)) 256) pf) in
+    let b : length (i .first) ≤ 256 = leb→le (length (i .first)) 256 (T-right (leb (length (i .payload)) n) (leb (length (i .first)) 256) pf) in
+    let c : length (i .second) ≤ 256 = leb→le (length (i .second)) 256 (T-right (leb (length (i .payload)) n && leb (length (i .first)) 256) (leb (length (i .second)) 256) h) in
+    rw (le-leb (length (i .payload)) (R .payload) (omega arith), le-leb (length (i .first)) (R .first) (omega arith), le-leb (length (i .second)) (R .second) (omega arith)) tt
+
+-- ---- one call
+
+-- a state whose used length is within its buffer of n places
+pub record Held (n : ℕ) (s : State) : Type 0 where
+  pub long : length (s .buffer) ≡ n
+  pub within : s .view .used ≤ n
+
+abbrev pub next : State → Whole ℕ → State
+next s w = record { view = nextView (s .view) (doing w (text s)); buffer = renewed (s .buffer) (s .view .used) (doing w (text s) .text) }
+
+module _ (s : State) (w : Whole ℕ) (o : Slices) (room : RecordRoom s o) where
+  abbrev d : Edited ℕ
+  d = doing w (text s)
+
+  abbrev l : Lent
+  l = lentAt s w o
+
+  result-same : resultOf (s .view) (w .edit) l ≡ d
+  unfolding resultOf
+  result-same = refl
+
+  answered : s .view .used ≤ length (s .buffer) → Fine (length (s .buffer)) (text s) w
+      → firstOf (givenTests (s .view) (w .edit) l ++ resultTests (s .view) (w .edit) l) (done (appliedAs (s .view) (resultOf (s .view) (w .edit) l))) ≡ done (appliedAs (s .view) d)
+  unfolding resultOf firstOf
+  answered h f = rw (
+    T-true (textOk (s .buffer) (s .view .used)) (subst T (text-holds (s .buffer) (s .view .used) h) (f .textual)),
+    T-true (smallOk (w .edit) (w .first) (w .second)) (f .smalls),
+    T-true (fewOk (text s) (w .edit) (w .payload) (w .first) (w .second)) (f .fews),
+    T-true (payloadOk (w .edit) (w .payload) (w .first)) (f .payloads),
+    T-true (withinOk (text s) (w .edit) (w .first) (w .second)) (f .withins),
+    T-true (roomOk (roomOf l) (d .text)) (room-same (length (s .buffer)) (roomOf l) (d .text) refl (f .rooms)),
+    T-true (recordOk (roomOf l) (d .inverse)) (record-more (length (s .buffer)) (roomOf l) (d .inverse) (room .payload) (room .first) (room .second) (f .records)),
+  )
+
+  fine-called : s .view .used ≤ length (s .buffer) → Fine (length (s .buffer)) (text s) w
+      → called s w o
+      ≡ outcome (done (appliedAs (s .view) d)) (renewed (s .buffer) (s .view .used) (d .text)) (over (d .inverse .payload) (o .payload)) (over (d .inverse .first) (o .first)) (over (d .inverse .second) (o .second))
+  unfolding applied leaves
+  fine-called h f = rw (answered h f, result-same)
+
+  called-fine : (a : Applied) → called s w o .answer ≡ done a → length (o .payload) ≡ length (s .buffer) → length (o .first) ≡ 256 → length (o .second) ≡ 256
+      → (s .view .used ≤ length (s .buffer)) × Fine (length (s .buffer)) (text s) w
+  unfolding applied resultOf roomOk recordOk
+  called-fine a e p q r =
+      let z = sym (leaves-answer (firstOf (givenTests (s .view) (w .edit) l ++ resultTests (s .view) (w .edit) l) (done (appliedAs (s .view) (resultOf (s .view) (w .edit) l)))) (s .view) l (resultOf (s .view) (w .edit) l)) ∙ e in
+      let t1 = passed (textOk (s .buffer) (s .view .used)) _ _ _ _ z in
+      let t2 = passed (smallOk (w .edit) (w .first) (w .second)) _ _ _ _ (t1 .1) in
+      let t3 = passed (fewOk (text s) (w .edit) (w .payload) (w .first) (w .second)) _ _ _ _ (t2 .1) in
+      let t4 = passed (payloadOk (w .edit) (w .payload) (w .first)) _ _ _ _ (t3 .1) in
+      let t7 = passed (withinOk (text s) (w .edit) (w .first) (w .second)) _ _ _ _ (t4 .1) in
+      let t8 = passed (roomOk (roomOf l) (d .text)) _ _ _ _ (t7 .1) in
+      let t9 = passed (recordOk (roomOf l) (d .inverse)) _ _ _ _ (t8 .1) in
+      let h = text-used (s .buffer) (s .view .used) (t1 .0) in (
+        h,
+        record {
+          textual = subst T (sym (text-holds (s .buffer) (s .view .used) h)) (t1 .0);
+          smalls = t2 .0;
+          fews = t3 .0;
+          payloads = t4 .0;
+          withins = t7 .0;
+          rooms = t8 .0;
+          records = rw (p, q, r) at (t9 .0);
+        },
+      )
+
+-- an edit of the text is an edit by call, whatever the slices hold
+pub step-accepted : (n : ℕ) (s : State) (w : Whole ℕ) (u : List ℕ) (i : Whole ℕ) → Held n s → Step n (text s) w u i → Accepted s w (next s w) i
+step-accepted n s w u i k h o room =
+    let d : Edited ℕ = doing w (text s) in
+    let e : length (s .buffer) ≡ n = k .long in
+    let c = fine-called s w o room (omega (arith, k .within)) (rw e (h .fine)) in
+    let r : returned (appliedAs (s .view) d) (called s w o) ≡ d .inverse =
+    rw (
+      c,
+      take-append-seam (d .inverse .payload) (drop (length (d .inverse .payload)) (o .payload)),
+      take-append-seam (d .inverse .first) (drop (length (d .inverse .first)) (o .first)),
+      take-append-seam (d .inverse .second) (drop (length (d .inverse .second)) (o .second)),
+    ) in
+    (appliedAs (s .view) d, ap (λ (r : Outcome). r .answer) c, rw c, r ∙ h .inverse)
+
+-- what such a call leaves
+pub next-text : (s : State) (w : Whole ℕ) → text (next s w) ≡ doing w (text s) .text
+next-text s w = renewed-text (s .buffer) (s .view .used) (doing w (text s) .text)
+
+pub next-held : (n : ℕ) (s : State) (w : Whole ℕ) → Held n s → Fine n (text s) w → Held n (next s w)
+unfolding roomOk
+next-held n s w k f =
+    let u : List ℕ = doing w (text s) .text in
+    let h : length u ≤ n = leb→le (length u) n (T-left (leb (length u) n) (short u) (f .rooms)) in
+    record { long = renewed-length (s .buffer) (s .view .used) u (omega (arith, k .long, k .within)) (omega (arith, k .long)) ∙ k .long; within = h }
+
+-- and an edit accepted by call, with the room that is named, is one of the text
+pub record Called (s : State) (w : Whole ℕ) (u : State) (i : Whole ℕ) : Type 0 where
+  pub before : Held (length (s .buffer)) s
+  pub fine : Fine (length (s .buffer)) (text s) w
+  pub state : u ≡ next s w
+  pub inverse : i ≡ doing w (text s) .inverse
+
+called-accepted : (s : State) (w : Whole ℕ) (u : State) (i : Whole ℕ) → Called s w u i → Accepted s w u i
+called-accepted s w u i c =
+    let n = length (s .buffer) in
+    let d : Edited ℕ = doing w (text s) in
+    let h : Accepted s w (next s w) (d .inverse) = step-accepted n s w (d .text) (d .inverse) (c .before) (record { fine = c .fine; text = refl; inverse = refl }) in
+    subst (λ (v : State). Accepted s w v i) (sym (c .state)) (subst (λ (j : Whole ℕ). Accepted s w (next s w) j) (sym (c .inverse)) h)
+
+module _ (s : State) (w : Whole ℕ) (o : Slices) (a : Applied) (p : length (o .payload) ≡ length (s .buffer)) (f : length (o .first) ≡ 256) (g : length (o .second) ≡ 256) (e : called s w o .answer ≡ done a) where
+  once-called : Called s w (after a (called s w o)) (returned a (called s w o))
+  once-called =
+      let n = length (s .buffer) in
+      let d : Edited ℕ = doing w (text s) in
+      let room : RecordRoom s o = record { payload = omega (arith, p); first = omega (arith, f); second = omega (arith, g) } in
+      let h = called-fine s w o room a e p f g in
+      let k : Held n s = record { long = refl; within = h .0 } in
+      let b = step-accepted n s w (d .text) (d .inverse) k (record { fine = h .1; text = refl; inverse = refl }) o room in
+      let q : done a ≡ done (b .0) = sym e ∙ b .1 in
+      let z : a ≡ b .0 = cc in
+      record {
+        before = k;
+        fine = h .1;
+        state = ap (λ (x : Applied). after x (called s w o)) z ∙ b .2;
+        inverse = ap (λ (x : Applied). returned x (called s w o)) z ∙ b .3;
+      }
+
+pub accepted-once : AcceptedOnce
+accepted-once s w o a p f g e = called-accepted s w (after a (called s w o)) (returned a (called s w o)) (once-called s w o a p f g e)
+
+abbrev exact : State → Slices
+exact s = record { payload = replicate (length (s .buffer)) 0; first = replicate 256 0; second = replicate 256 0 }
+
+pub accepted-called : (s : State) (w : Whole ℕ) (u : State) (i : Whole ℕ) → Accepted s w u i → Called s w u i
+accepted-called s w u i h =
+    let o = exact s in
+    let p : length (o .payload) ≡ length (s .buffer) = length-replicate {A = ℕ} (length (s .buffer)) 0 in
+    let l : length (o .first) ≡ 256 = length-replicate {A = ℕ} 256 0 in
+    let a = h o (record { payload = omega (arith, p); first = omega (arith, l); second = omega (arith, l) }) in
+    subst (λ (v : State). Called s w v i) (a .2) (subst (λ (j : Whole ℕ). Called s w (after (a .0) (called s w o)) j) (a .3) (once-called s w o (a .0) p l l (a .1)))
+
+-- `undoable` says yes only where the kind and its conditions are those of demand 3
+pub said-undoable : (s : State) (w : Whole ℕ) → undoable (s .view) (w .edit) (lentAt s w (record { payload = []; first = []; second = [] })) ≡ done true → T (isUndoable (text s) (w .edit))
+unfolding undoable
+said-undoable s w e =
+    let t1 = passed (textOk (s .buffer) (s .view .used)) _ _ _ _ e in
+    let t2 = passed (smallOk (w .edit) (w .first) (w .second)) _ _ _ _ (t1 .1) in
+    let t3 = passed (fewOk (text s) (w .edit) (w .payload) (w .first) (w .second)) _ _ _ _ (t2 .1) in
+    let t4 = passed (payloadOk (w .edit) (w .payload) (w .first)) _ _ _ _ (t3 .1) in
+    let z : done (isUndoable (text s) (w .edit)) ≡ done true = none-left _ _ (t4 .1) in
+    let b : true ≡ isUndoable (text s) (w .edit) = cc in
+    subst T b tt

@@ -1,0 +1,48 @@
+-- Rows as a text has them: no LF in a body, an LF behind each row but the last.
+use mathlib.Core.Path.{_≡_, refl, _∙_, ap}
+use mathlib.Core.Bool.{Bool, true, false, cond, not}
+use mathlib.Core.List.{List, [], _∷_, _++_, append-nil}
+use Prim.Native.Nat.{ℕ}
+use borrow.Author.Tests.{eqb-true}
+use lib.Dec.{T}
+use Rattle.text.specs.Rows.{Line, line, onto, lines, unlines}
+use Rattle.text.specs.Text.{isLF, all}
+use Rattle.edit.proofs.Tests.{T-left, T-right}
+
+abbrev pub notLF : ℕ → Bool
+notLF c = not (isLF c)
+
+abbrev pub Plain : List ℕ → Type 0
+Plain x = T (all notLF x)
+
+pub data Ended : List (Line ℕ) → Type 0 where
+  final : (b : List ℕ) → Plain b → Ended (line b [] ∷ [])
+  ended : (b : List ℕ) {rs : List (Line ℕ)} → Plain b → Ended rs → Ended (line b (10 ∷ []) ∷ rs)
+
+pub lines-ended : (t : List ℕ) → Ended (lines isLF t)
+unfolding lines onto all
+lines-ended [] = final [] tt
+lines-ended (x ∷ t) = go (isLF x) refl (lines isLF t) (lines-ended t)
+  where
+    go : (b : Bool) → isLF x ≡ b → (l : List (Line ℕ)) → Ended l → Ended (cond b (line [] (x ∷ []) ∷ l) (onto x l))
+    go true e l h = rw (eqb-true x 10 e) (ended [] tt h)
+    go false e (r ∷ []) (final b p) = final (x ∷ b) (rw e p)
+    go false e (r ∷ rs) (ended b p h) = ended (x ∷ b) (rw e p) h
+
+-- elements that are no LF go before the first row
+pub plain-front : (b s : List ℕ) (r : Line ℕ) (rs : List (Line ℕ)) → Plain b → lines isLF s ≡ r ∷ rs → lines isLF (b ++ s) ≡ line (b ++ r .body) (r .after) ∷ rs
+unfolding lines onto all
+plain-front [] s r rs p e = e
+plain-front (x ∷ b) s r rs p e = rw (plain-front b s r rs (T-right (notLF x) (all notLF b) p) e) (go (isLF x) refl)
+  where
+    go : (q : Bool) → isLF x ≡ q
+        → cond q (line [] (x ∷ []) ∷ (line (b ++ r .body) (r .after) ∷ rs)) (onto x (line (b ++ r .body) (r .after) ∷ rs)) ≡ line (x ∷ (b ++ r .body)) (r .after) ∷ rs
+    go true e = absurd (rw e at (T-left (notLF x) (all notLF b) p))
+    go false e = refl
+
+-- such rows are the rows of their text
+pub lines-unlines : {rs : List (Line ℕ)} → Ended rs → lines isLF (unlines rs) ≡ rs
+unfolding lines unlines
+lines-unlines (final b p) = plain-front b [] (line [] []) [] p refl ∙ rw append-nil
+lines-unlines (ended b {rs} p h) =
+    plain-front b (10 ∷ unlines rs) (line [] (10 ∷ [])) rs p (ap (_∷_ (line [] (10 ∷ []))) (lines-unlines h)) ∙ rw append-nil

@@ -1,0 +1,97 @@
+-- The marked examples and the sample run, computed.
+use mathlib.Core.Path.{_≡_, refl, _∙_, ap}
+use native.Mathlib.Omega.{arith}
+use mathlib.Core.List.{List, [], _∷_, map, flatten}
+use mathlib.Core.Bool.{true}
+use Prim.Native.Nat.{ℕ}
+use Rattle.promise.specs.Paper.{done}
+use Rattle.utf8.specs.Rfc3629.{scalar}
+use Rattle.text.specs.Rows.{onto, lines, unlines, rowCount, lastRow, rowLen, rowStart, clamp, offset, endOf, inText}
+use Rattle.text.specs.Text.{admissible, all, textOk, renewed}
+use Rattle.edit.specs.Edits.{inserted, charsDeleted, lineFrom, lineTo, linesDeleted, replaced, gap, joinRow, joinCols, joinFlags, put, putAll, padsOf, pieces, cutAll, chunksOf, anyFlag, joined, unspace, splitFirst, splitRow, split, blockInserted, chunksDeleted, rangeDeleted, editedBy, Whole}
+use Rattle.edit.specs.Refusals.{sum, smallRange, smallOk, fewRows, fewOk, payloadOk, withinFirst, withinAll, withinOk, roomOk, recordOk, wide}
+use Rattle.edit.specs.Call.{firstOf, resultOf, leaves, applied, rangeUndoable, isUndoable, undoable}
+use Rattle.edit.specs.Runs.{Run, stop, step, edits, stages}
+use Rattle.edit.specs.Demand3.{State, text, lentAt, Undoable}
+use Rattle.edit.specs.Examples.{opened, MarkedExamples, FirstRefusals, sampleEdits, sampleTexts, SampleRun}
+use Rattle.edit.proofs.Accepted.{holds, doing, Fine}
+use Rattle.edit.proofs.Calls.{Held, next, step-accepted, next-held}
+
+pub marked-examples : MarkedExamples
+unfolding onto lines unlines rowCount lastRow rowLen rowStart clamp offset endOf inText admissible all textOk renewed scalar flatten inserted charsDeleted lineFrom lineTo linesDeleted replaced gap joinRow joinCols joinFlags put putAll padsOf pieces cutAll chunksOf anyFlag joined unspace splitFirst splitRow split blockInserted chunksDeleted rangeDeleted editedBy sum smallRange smallOk fewRows fewOk payloadOk withinFirst withinAll withinOk roomOk recordOk wide firstOf resultOf leaves applied rangeUndoable isUndoable undoable
+marked-examples = record {
+  one = refl;
+  two = refl;
+  four = refl;
+  four-undoable = refl;
+  five = refl;
+  six = refl;
+  seven = refl;
+  eight = refl;
+  nine = refl;
+  ten = refl;
+  ten-back = refl;
+  eleven = refl;
+  eleven-refused = refl;
+  fourteen = refl;
+}
+
+pub first-refusals : FirstRefusals
+unfolding onto lines unlines rowCount lastRow rowLen rowStart clamp offset endOf inText admissible all textOk renewed scalar flatten inserted charsDeleted lineFrom lineTo linesDeleted replaced gap joinRow joinCols joinFlags put putAll padsOf pieces cutAll chunksOf anyFlag joined unspace splitFirst splitRow split blockInserted chunksDeleted rangeDeleted editedBy sum smallRange smallOk fewRows fewOk payloadOk withinFirst withinAll withinOk roomOk recordOk wide firstOf resultOf leaves applied rangeUndoable isUndoable undoable
+first-refusals = record { bad-text = refl; too-big = refl; too-many = refl; bad-payload = refl; beyond-row = refl; no-room = refl; no-record = refl }
+
+-- ---- the sample: every test of each edit is computed at the state that the edits before it leave
+
+statesFrom : State → List (Whole ℕ) → List State
+statesFrom s [] = s ∷ []
+statesFrom s (w ∷ ws) = s ∷ statesFrom (next s w) ws
+
+lastFrom : State → List (Whole ℕ) → State
+lastFrom s [] = s
+lastFrom s (w ∷ ws) = lastFrom (next s w) ws
+
+data Passes : State → List (Whole ℕ) → Type 0 where
+  none : {s : State} → Passes s []
+  more : {s : State} {w : Whole ℕ} {ws : List (Whole ℕ)} → Fine 16 (text s) w
+      → undoable (s .view) (w .edit) (lentAt s w (record { payload = []; first = []; second = [] })) ≡ done true → Passes (next s w) ws → Passes s (w ∷ ws)
+
+record Ran (s : State) (ws : List (Whole ℕ)) : Type 0 where
+  run : Run Undoable s (lastFrom s ws)
+  its-edits : edits run ≡ ws
+  its-states : stages run ≡ statesFrom s ws
+
+ran : (s : State) (ws : List (Whole ℕ)) → Held 16 s → Passes s ws → Ran s ws
+unfolding edits stages lastFrom statesFrom
+ran s [] k none = record { run = stop; its-edits = refl; its-states = refl }
+ran s (w ∷ ws) k (more f e p) =
+    let r = ran (next s w) ws (next-held 16 s w k f) p in
+    record {
+      run = step (step-accepted 16 s w (doing w (text s) .text) (doing w (text s) .inverse) k (record { fine = f; text = refl; inverse = refl }), e) (r .run);
+      its-edits = ap {B = List (Whole ℕ)} (λ l. w ∷ l) (r .its-edits);
+      its-states = ap {B = List State} (λ l. s ∷ l) (r .its-states);
+    }
+
+abbrev start : State
+start = opened (97 ∷ 98 ∷ 10 ∷ 99 ∷ [])
+
+passes : Passes start sampleEdits
+unfolding holds onto lines unlines rowCount lastRow rowLen rowStart clamp offset endOf inText admissible all textOk renewed scalar flatten inserted charsDeleted lineFrom lineTo linesDeleted replaced gap joinRow joinCols joinFlags put putAll padsOf pieces cutAll chunksOf anyFlag joined unspace splitFirst splitRow split blockInserted chunksDeleted rangeDeleted editedBy sum smallRange smallOk fewRows fewOk payloadOk withinFirst withinAll withinOk roomOk recordOk wide firstOf resultOf leaves applied rangeUndoable isUndoable undoable
+passes =
+    more (record { textual = tt; smalls = tt; fews = tt; payloads = tt; withins = tt; rooms = tt; records = tt }) refl
+    (more (record { textual = tt; smalls = tt; fews = tt; payloads = tt; withins = tt; rooms = tt; records = tt }) refl
+    (more (record { textual = tt; smalls = tt; fews = tt; payloads = tt; withins = tt; rooms = tt; records = tt }) refl
+    (more (record { textual = tt; smalls = tt; fews = tt; payloads = tt; withins = tt; rooms = tt; records = tt }) refl
+    (more (record { textual = tt; smalls = tt; fews = tt; payloads = tt; withins = tt; rooms = tt; records = tt }) refl
+    (more (record { textual = tt; smalls = tt; fews = tt; payloads = tt; withins = tt; rooms = tt; records = tt }) refl
+    (more (record { textual = tt; smalls = tt; fews = tt; payloads = tt; withins = tt; rooms = tt; records = tt }) refl
+    (more (record { textual = tt; smalls = tt; fews = tt; payloads = tt; withins = tt; rooms = tt; records = tt }) refl
+    none)))))))
+
+sample-texts : map text (statesFrom start sampleEdits) ≡ sampleTexts
+unfolding statesFrom onto lines unlines rowCount lastRow rowLen rowStart clamp offset endOf inText admissible all textOk renewed scalar flatten inserted charsDeleted lineFrom lineTo linesDeleted replaced gap joinRow joinCols joinFlags put putAll padsOf pieces cutAll chunksOf anyFlag joined unspace splitFirst splitRow split blockInserted chunksDeleted rangeDeleted editedBy sum smallRange smallOk fewRows fewOk payloadOk withinFirst withinAll withinOk roomOk recordOk wide firstOf resultOf leaves applied rangeUndoable isUndoable undoable
+sample-texts = refl
+
+pub sample-run : SampleRun
+sample-run =
+    let r = ran start sampleEdits (record { long = refl; within = omega arith }) passes in
+    record { last = lastFrom start sampleEdits; run = r .run; its-edits = r .its-edits; its-texts = ap (map text) (r .its-states) ∙ sample-texts }

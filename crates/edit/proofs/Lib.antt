@@ -1,0 +1,14 @@
+pub mod Maps
+pub mod Natural
+pub mod Tests
+pub mod Accepted
+pub mod Ended
+pub mod Spots
+pub mod Flats
+pub mod Joins
+pub mod Blocks
+pub mod Undo
+pub mod Calls
+pub mod Demand3
+pub mod Theorems
+pub mod Examples

@@ -1,0 +1,75 @@
+-- More laws of places: bounds, order, and the parts of a cut.
+use mathlib.Core.Path.{_≡_, refl, sym, _∙_, ap}
+use mathlib.Core.Bool.{Bool, true, false, or-true}
+use mathlib.Core.List.{List, [], _∷_, _++_, append-assoc}
+use Prim.Native.Nat.{ℕ, zero, suc, _+_, _≤_, _<_, min}
+use native.Mathlib.Omega.{arith}
+use borrow.Author.Tests.{lt-ltb, le-leb, eq-eqb, ne-eqb}
+use lib.Dec.{ltb}
+use lib.ListN.{length, take, drop, length-append, take-append-drop}
+use lib.Seq.{slice, take-take}
+use Rattle.text.specs.declared.Position.{Position}
+use Rattle.text.specs.Rows.{Line, lines, unlines, at, upto, _⊕_, lastRow, rowLen, rowStart, clamp, offset, endOf}
+use Rattle.text.proofs.Laws.{start-lf, start-other, start-first, start-none, len-lf-next, len-other-next, len-none, len-le, last-le, end-append}
+
+upto-added : (a b r c : ℕ) → upto (at a b) (at a b ⊕ at r c) ≡ true
+unfolding _⊕_
+upto-added a b zero c = let h : b ≤ b + c = omega arith in rw (eq-eqb a a refl, le-leb b (b + c) h) (or-true (ltb a a))
+upto-added a b (suc r) c = let h : a < a + suc r = omega arith in rw (ne-eqb (suc r) 0 (omega arith), lt-ltb a (a + suc r) h)
+
+module _ {A : Type 0} (lf : A → Bool) where
+  -- a row ends in the text
+  row-within : (t : List A) (r : ℕ) → rowStart lf t r + rowLen lf t r ≤ length t
+  row-within t zero = rw (start-first lf t) (omega (arith, len-le lf t 0))
+  row-within [] (suc r) = rw (start-none lf, len-none lf (suc r)) (omega arith)
+  row-within (x ∷ t) (suc r) = go (lf x) refl (row-within t r) (row-within t (suc r))
+    where
+      go : (b : Bool) → lf x ≡ b → rowStart lf t r + rowLen lf t r ≤ length t → rowStart lf t (suc r) + rowLen lf t (suc r) ≤ length t
+          → rowStart lf (x ∷ t) (suc r) + rowLen lf (x ∷ t) (suc r) ≤ suc (length t)
+      go true e h k = rw (start-lf lf x t r e, len-lf-next lf x t r e) (omega arith)
+      go false e h k = rw (start-other lf x t r e, len-other-next lf x t r e) (omega arith)
+
+  pub offset-le : (t : List A) (p : Position) → offset lf t p ≤ length t
+  unfolding offset clamp
+  offset-le t p = let r : ℕ = min (p .row .0) (lastRow lf t) in omega (arith, row-within t r)
+
+  pub clamp-place : (t : List A) (r c : ℕ) → r ≤ lastRow lf t → c ≤ rowLen lf t r → clamp lf t (at r c) ≡ at r c
+  unfolding clamp
+  clamp-place t r c h k =
+      let m : min r (lastRow lf t) ≡ r = omega arith in
+      let n : min c (rowLen lf t r) ≡ c = omega arith in
+      rw (m, n)
+
+  pub offset-place : (t : List A) (r c : ℕ) → r ≤ lastRow lf t → c ≤ rowLen lf t r → offset lf t (at r c) ≡ rowStart lf t r + c
+  unfolding offset
+  offset-place t r c h k = rw (clamp-place t r c h k)
+
+  pub end-row : (t : List A) → endOf lf t .row .0 ≤ length t
+  unfolding endOf
+  end-row t = last-le lf t
+
+  pub end-col : (t : List A) → endOf lf t .col .0 ≤ length t
+  unfolding endOf
+  end-col t = len-le lf t (lastRow lf t)
+
+  unlines-mono : (ls : List (Line A)) (r s : ℕ) → r ≤ s → length (unlines (take r ls)) ≤ length (unlines (take s ls))
+  unfolding unlines
+  unlines-mono ls zero s h = omega arith
+  unlines-mono ls (suc r) zero h = absurd (omega arith)
+  unlines-mono [] (suc r) (suc s) h = omega arith
+  unlines-mono (l ∷ ls) (suc r) (suc s) h =
+      let k = unlines-mono ls r s (omega arith) in
+      simp length-append (omega arith)
+
+  pub start-mono : (t : List A) (r s : ℕ) → r ≤ s → rowStart lf t r ≤ rowStart lf t s
+  unfolding rowStart
+  start-mono t r s h = unlines-mono (lines lf t) r s h
+
+  -- a text ends no later than a longer one
+  pub end-upto : (s u : List A) → upto (endOf lf s) (endOf lf (s ++ u)) ≡ true
+  end-upto s u = rw (end-append lf s u) (upto-added (endOf lf s .row .0) (endOf lf s .col .0) (endOf lf u .row .0) (endOf lf u .col .0))
+
+pub cut-parts : {A : Type 0} (a b : ℕ) (t : List A) → a ≤ b → take a t ++ (slice a b t ++ drop b t) ≡ t
+cut-parts {A} a b t h =
+    ap (λ (l : List A). l ++ (slice a b t ++ drop b t)) (sym (take-take a b t h)) ∙ sym (append-assoc (take a (take b t)) (slice a b t) (drop b t))
+    ∙ ap (λ (l : List A). l ++ drop b t) (take-append-drop a (take b t)) ∙ take-append-drop b t

@@ -1,0 +1,83 @@
+-- Demand 3, over the call itself: its views, its buffers and every slice that it is lent.
+use mathlib.Core.Path.{_≡_}
+use mathlib.Core.Bool.{true}
+use mathlib.Core.List.{List, [], map, reverse}
+use Prim.Native.Nat.{ℕ, _≤_}
+use lib.ListN.{length, take}
+use Rattle.promise.specs.Paper.{done}
+use Rattle.edit.specs.declared.View.{View}
+use Rattle.edit.specs.declared.Applied.{Applied}
+use Rattle.edit.specs.Edits.{Whole, whole}
+use Rattle.edit.specs.Call.{Lent, Outcome, applied, undoable}
+use Rattle.edit.specs.Runs.{Run, edits, inverses, stages}
+
+-- what a caller keeps between calls
+pub record State : Type 0 where
+  pub view : View
+  pub buffer : List ℕ
+
+abbrev pub text : State → List ℕ
+text s = take (s .view .used) (s .buffer)
+
+-- the slices that a call is lent for its inverse
+pub record Slices : Type 0 where
+  pub payload : List ℕ
+  pub first : List ℕ
+  pub second : List ℕ
+
+-- "Demand 3's record room is a payload slice as long as the text buffer and 256 items in each list slice." More room serves too.
+pub record RecordRoom (s : State) (o : Slices) : Type 0 where
+  pub payload : length (s .buffer) ≤ length (o .payload)
+  pub first : 256 ≤ length (o .first)
+  pub second : 256 ≤ length (o .second)
+
+abbrev pub lentAt : State → Whole ℕ → Slices → Lent
+lentAt s w o = record {
+  buffer = s .buffer;
+  payload = w .payload;
+  first = w .first;
+  second = w .second;
+  outPayload = o .payload;
+  outFirst = o .first;
+  outSecond = o .second;
+}
+
+abbrev pub called : State → Whole ℕ → Slices → Outcome
+called s w o = applied (s .view) (w .edit) (lentAt s w o)
+
+-- what the caller has after an accepted call: the state, and the inverse as it stands in the slices
+abbrev pub after : Applied → Outcome → State
+after a r = record { view = a .view; buffer = r .text }
+
+abbrev pub returned : Applied → Outcome → Whole ℕ
+returned a r = whole (a .inverse) (take (a .payload) (r .payload)) (take (a .first) (r .first)) (take (a .second) (r .second))
+
+-- with the record room, whatever it holds, edit w is accepted at s and leaves u and the inverse i
+abbrev pub Accepted : State → Whole ℕ → State → Whole ℕ → Type 0
+Accepted s w u i = (o : Slices) → RecordRoom s o → (a : Applied) × (called s w o .answer ≡ done a) × (after a (called s w o) ≡ u) × (returned a (called s w o) ≡ i)
+
+-- Whoever saw the call accepted once, with the very room that is named, has that.
+abbrev pub AcceptedOnce : Type 0
+AcceptedOnce =
+    (s : State) (w : Whole ℕ) (o : Slices) (a : Applied) → length (o .payload) ≡ length (s .buffer) → length (o .first) ≡ 256 → length (o .second) ≡ 256 → called s w o .answer ≡ done a
+    → Accepted s w (after a (called s w o)) (returned a (called s w o))
+
+-- and `undoable` says yes to it at that moment
+abbrev pub Undoable : State → Whole ℕ → State → Whole ℕ → Type 0
+Undoable s w u i = Accepted s w u i × (undoable (s .view) (w .edit) (lentAt s w (record { payload = []; first = []; second = [] })) ≡ done true)
+
+-- "every returned inverse is accepted, and applying them last first gives back the text at each stage, character for character.
+-- The inverses which those give, again applied last first, are accepted and rebuild the edited text at each stage."
+pub record Undone {s w : State} (r : Run Undoable s w) : Type 0 where
+  pub origin : State
+  pub back : Run Accepted w origin
+  pub back-edits : edits back ≡ reverse (inverses r)
+  pub back-texts : map text (stages back) ≡ reverse (map text (stages r))
+  pub final : State
+  pub again : Run Accepted origin final
+  pub again-edits : edits again ≡ reverse (inverses back)
+  pub again-texts : map text (stages again) ≡ map text (stages r)
+
+-- "Take a run of accepted edits"
+abbrev pub Demand3 : Type 0
+Demand3 = (s w : State) (r : Run Undoable s w) → Undone r

@@ -1,0 +1,143 @@
+-- Document 01's marked examples that concern texts and edits, each an equation of the whole call, and a run of every kind that
+-- demand 3 names. In a text "/" is LF, 10; a is 97, X is 88, a space 32.
+use mathlib.Core.Path.{_≡_}
+use mathlib.Core.Bool.{true, false}
+use mathlib.Core.List.{List, [], _∷_, _++_, map}
+use Prim.Native.Nat.{ℕ, _-_, max}
+use lib.ListN.{length, replicate}
+use Rattle.promise.specs.Paper.{done, refused}
+use Rattle.text.specs.declared.Position.{Position}
+use Rattle.text.specs.Rows.{at, rowCount}
+use Rattle.text.specs.Text.{isLF}
+use Rattle.edit.specs.declared.MotionKind.the-variants.{Char, Line as Lines, Block}
+use Rattle.edit.specs.declared.Edit.{Edit}
+use Rattle.edit.specs.declared.Edit.the-variants.{InsertChar, InsertStr, DeleteRange, JoinLines, SplitLines, Replace, InsertBlock, DeleteBlockChunks}
+use Rattle.edit.specs.Edits.{Whole, whole, rowAt}
+use Rattle.edit.specs.Call.{outcome, undoable}
+use Rattle.edit.specs.Runs.{Run, edits, stages}
+use Rattle.edit.specs.Demand3.{State, text, Slices, lentAt, called, Undoable}
+
+-- a text in a buffer of 16 places, with 7 in those behind it; slices of 8 and 4 places, full of 9
+abbrev pub opened : List ℕ → State
+opened t = record { view = record { used = length t; cursor = at 0 0; changes = 0 }; buffer = t ++ replicate (16 - length t) 7 }
+
+abbrev pub slices : Slices
+slices = record { payload = replicate 8 9; first = replicate 4 9; second = replicate 4 9 }
+
+-- the edit w of the text t leaves the text u, the inverse i and the cursor c; zeros where the text shrank, and all else as it was
+abbrev pub Gives : List ℕ → Whole ℕ → List ℕ → Whole ℕ → Position → Type 0
+Gives t w u i c =
+    called (opened t) w slices
+    ≡ outcome
+    (done (record {
+      view = record { used = length u; cursor = c; changes = 1 };
+      inverse = i .edit;
+      payload = length (i .payload);
+      first = length (i .first);
+      second = length (i .second);
+    }))
+    (u ++ (replicate (length t - length u) 0 ++ replicate (16 - max (length t) (length u)) 7)) (i .payload ++ replicate (8 - length (i .payload)) 9)
+    (i .first ++ replicate (4 - length (i .first)) 9) (i .second ++ replicate (4 - length (i .second)) 9)
+
+-- it is refused by this number, and nothing lent changes
+abbrev pub Refuses : List ℕ → Whole ℕ → ℕ → Type 0
+Refuses t w n = called (opened t) w slices ≡ outcome (refused n 0) (opened t .buffer) (slices .payload) (slices .first) (slices .second)
+
+abbrev pub plain : Edit → List ℕ → Whole ℕ
+plain e x = whole e x [] []
+
+-- "ab/cdef"
+abbrev pub abcdef : List ℕ
+abcdef = 97 ∷ 98 ∷ 10 ∷ 99 ∷ 100 ∷ 101 ∷ 102 ∷ []
+
+-- "abc/d"
+abbrev pub abcd : List ℕ
+abcd = 97 ∷ 98 ∷ 99 ∷ 10 ∷ 100 ∷ []
+
+pub record MarkedExamples : Type 0 where
+  -- "1. Empty: one row."
+  pub one : rowCount isLF [] ≡ 1
+  -- "2. "a/": two."
+  pub two : rowCount isLF (97 ∷ 10 ∷ []) ≡ 2
+  -- "4. "ab/cdef", Char (0,99)-(1,2): "abef", inverse at (0,99) "/cd", cursor (0,4), not undoable."
+  pub four : Gives abcdef (plain (DeleteRange (at 0 99) (at 1 2) Char) []) (97 ∷ 98 ∷ 101 ∷ 102 ∷ []) (plain (InsertStr (at 0 99)) (10 ∷ 99 ∷ 100 ∷ [])) (at 0 4)
+  pub four-undoable : undoable (opened abcdef .view) (DeleteRange (at 0 99) (at 1 2) Char) (lentAt (opened abcdef) (plain (InsertStr (at 0 0)) []) slices) ≡ done false
+  -- "5. "a/b", Line row 1: "a", inverse (0,1) "/b", cursor (0,0)."
+  pub five : Gives (97 ∷ 10 ∷ 98 ∷ []) (plain (DeleteRange (at 1 0) (at 1 0) Lines) []) (97 ∷ []) (plain (InsertStr (at 0 1)) (10 ∷ 98 ∷ [])) (at 0 0)
+  -- "6. "", Line: "" and empty inverse."
+  pub six : Gives [] (plain (DeleteRange (at 0 0) (at 0 0) Lines) []) [] (plain (InsertStr (at 0 0)) []) (at 0 0)
+  -- "7. "a//b", join 0 count 0 with space: "a/b", column 1, no space."
+  pub seven : Gives (97 ∷ 10 ∷ 10 ∷ 98 ∷ []) (plain (JoinLines (rowAt 0) 0 true) []) (97 ∷ 10 ∷ 98 ∷ []) (whole (SplitLines (rowAt 0)) [] (1 ∷ []) (0 ∷ [])) (at 0 0)
+  -- "8. "a/b/c", join 0 count 5 with space: "a b c", columns 1, 3, both spaced."
+  pub eight : Gives (97 ∷ 10 ∷ 98 ∷ 10 ∷ 99 ∷ []) (plain (JoinLines (rowAt 0) 5 true) []) (97 ∷ 32 ∷ 98 ∷ 32 ∷ 99 ∷ []) (whole (SplitLines (rowAt 0)) [] (1 ∷ 3 ∷ []) (1 ∷ 1 ∷ [])) (at 0 0)
+  -- "9. "abc/d", block at (0,2) "X","Y": "abXc/d Y", pads 0, 1."
+  pub nine :
+      Gives abcd (whole (InsertBlock (at 0 2)) (88 ∷ 89 ∷ []) (1 ∷ 1 ∷ []) []) (97 ∷ 98 ∷ 88 ∷ 99 ∷ 10 ∷ 100 ∷ 32 ∷ 89 ∷ [])
+      (whole (DeleteBlockChunks (at 0 2)) [] (1 ∷ 1 ∷ []) (0 ∷ 1 ∷ [])) (at 0 2)
+  -- "10. "abc/d", Block (0,2)-(1,2): "ab/d"; inverse gives "abc/d "."
+  pub ten : Gives abcd (plain (DeleteRange (at 0 2) (at 1 2) Block) []) (97 ∷ 98 ∷ 10 ∷ 100 ∷ []) (whole (InsertBlock (at 0 2)) (99 ∷ []) (1 ∷ 0 ∷ []) []) (at 0 2)
+  pub ten-back :
+      Gives (97 ∷ 98 ∷ 10 ∷ 100 ∷ []) (whole (InsertBlock (at 0 2)) (99 ∷ []) (1 ∷ 0 ∷ []) []) (97 ∷ 98 ∷ 99 ∷ 10 ∷ 100 ∷ 32 ∷ [])
+      (whole (DeleteBlockChunks (at 0 2)) [] (1 ∷ 0 ∷ []) (0 ∷ 1 ∷ [])) (at 0 2)
+  -- "11. "abc", split 3 yes: "abc/"; 4 yes: refusal 7."
+  pub eleven : Gives (97 ∷ 98 ∷ 99 ∷ []) (whole (SplitLines (rowAt 0)) [] (3 ∷ []) (1 ∷ [])) (97 ∷ 98 ∷ 99 ∷ 10 ∷ []) (plain (JoinLines (rowAt 0) 1 true) []) (at 0 0)
+  pub eleven-refused : Refuses (97 ∷ 98 ∷ 99 ∷ []) (whole (SplitLines (rowAt 0)) [] (4 ∷ []) (1 ∷ [])) 7
+  -- "14. Case 4 as Replace "X": "abefX"."
+  pub fourteen :
+      Gives abcdef (plain (Replace (at 0 99) (at 1 2)) (88 ∷ [])) (97 ∷ 98 ∷ 101 ∷ 102 ∷ 88 ∷ []) (plain (Replace (at 0 4) (at 0 5)) (10 ∷ 99 ∷ 100 ∷ [])) (at 0 5)
+
+-- ---- refusals in order
+
+-- "a/b/c/d/e/f"
+abbrev pub sixRows : List ℕ
+sixRows = 97 ∷ 10 ∷ 98 ∷ 10 ∷ 99 ∷ 10 ∷ 100 ∷ 10 ∷ 101 ∷ 10 ∷ 102 ∷ []
+
+-- for each row of the table an edit that it refuses, and a later row would
+pub record FirstRefusals : Type 0 where
+  -- U+000D in the text, and a row of 1,000,001
+  pub bad-text : Refuses (13 ∷ []) (plain (InsertStr (at 1_000_001 0)) []) 1
+  -- that row, and 257 chunks
+  pub too-big : Refuses [] (whole (InsertBlock (at 1_000_001 0)) [] (replicate 257 0) []) 2
+  -- 257 chunks, and U+000D in the payload
+  pub too-many : Refuses [] (whole (InsertBlock (at 0 0)) (13 ∷ []) (replicate 257 0) []) 3
+  -- seventeen times U+000D for sixteen places
+  pub bad-payload : Refuses [] (plain (InsertStr (at 0 0)) (replicate 17 13)) 4
+  -- a full buffer split past its row
+  pub beyond-row : Refuses (replicate 16 97) (whole (SplitLines (rowAt 0)) [] (17 ∷ []) (1 ∷ [])) 7
+  -- five chunks of six characters: the text is one too long, and so are their widths
+  pub no-room : Refuses sixRows (whole (InsertBlock (at 0 0)) (replicate 6 97) (2 ∷ 1 ∷ 1 ∷ 1 ∷ 1 ∷ []) []) 8
+  -- five joins, and four places for their columns
+  pub no-record : Refuses sixRows (plain (JoinLines (rowAt 0) 9 false) []) 9
+
+-- ---- a run of every kind that demand 3 names
+
+abbrev pub sampleEdits : List (Whole ℕ)
+sampleEdits =
+    plain (InsertStr (at 0 1)) (88 ∷ 10 ∷ [])
+    ∷ plain (DeleteRange (at 1 0) (at 2 1) Char) []
+    ∷ plain (Replace (at 0 1) (at 9 9)) (89 ∷ 10 ∷ 90 ∷ [])
+    ∷ whole (InsertBlock (at 0 3)) (120 ∷ 121 ∷ 122 ∷ []) (1 ∷ 0 ∷ 2 ∷ []) []
+    ∷ plain (JoinLines (rowAt 0) 9 true) []
+    ∷ plain (InsertChar (at 0 2)) (10 ∷ [])
+    ∷ plain (DeleteRange (at 0 1) (at 3 1) Block) []
+    ∷ plain (DeleteRange (at 1 0) (at 7 7) Lines) []
+    ∷ []
+
+abbrev pub sampleTexts : List (List ℕ)
+sampleTexts =
+    (97 ∷ 98 ∷ 10 ∷ 99 ∷ [])
+    ∷ (97 ∷ 88 ∷ 10 ∷ 98 ∷ 10 ∷ 99 ∷ [])
+    ∷ (97 ∷ 88 ∷ 10 ∷ [])
+    ∷ (97 ∷ 89 ∷ 10 ∷ 90 ∷ [])
+    ∷ (97 ∷ 89 ∷ 32 ∷ 120 ∷ 10 ∷ 90 ∷ 32 ∷ 32 ∷ [])
+    ∷ (97 ∷ 89 ∷ 32 ∷ 120 ∷ 32 ∷ 90 ∷ 32 ∷ 32 ∷ [])
+    ∷ (97 ∷ 89 ∷ 10 ∷ 32 ∷ 120 ∷ 32 ∷ 90 ∷ 32 ∷ 32 ∷ [])
+    ∷ (97 ∷ 10 ∷ 32 ∷ 32 ∷ 90 ∷ 32 ∷ 32 ∷ [])
+    ∷ (97 ∷ [])
+    ∷ []
+
+pub record SampleRun : Type 0 where
+  pub last : State
+  pub run : Run Undoable (opened (97 ∷ 98 ∷ 10 ∷ 99 ∷ [])) last
+  pub its-edits : edits run ≡ sampleEdits
+  pub its-texts : map text (stages run) ≡ sampleTexts

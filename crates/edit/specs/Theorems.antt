@@ -1,0 +1,62 @@
+-- What is proved of these definitions. Demand 3 has a file of its own, and so have the marked examples.
+use mathlib.Core.Bool.{Bool}
+use mathlib.Core.List.{List, map}
+use mathlib.Core.Path.{_≡_}
+use Prim.Native.Nat.{ℕ, _≤_, min, max}
+use lib.Dec.{T}
+use Rattle.promise.specs.Settled.{Settles}
+use Rattle.text.specs.declared.Position.{Position}
+use Rattle.text.specs.Rows.{earlier, lastRow, rowLen, clamp}
+use Rattle.text.specs.Text.{isLF}
+use Rattle.edit.specs.declared.MotionKind.{MotionKind}
+use Rattle.edit.specs.declared.MotionKind.the-variants.{Char, Line as Lines, Block}
+use Rattle.edit.specs.declared.Edit.{Edit}
+use Rattle.edit.specs.declared.Edit.the-variants.{InsertChar, InsertStr, DeleteRange, JoinLines, SplitLines, Replace, InsertBlock, DeleteBlockChunks}
+use Rattle.edit.specs.Call.{paperAnswer, isUndoable}
+use Rattle.edit.specs.Edits.{Whole, whole, Made, Edited, edited, editedBy}
+
+module _ {A B : Type 0} (f : A → B) where
+  abbrev pub mapWhole : Whole A → Whole B
+  mapWhole w = whole (w .edit) (map f (w .payload)) (w .first) (w .second)
+
+  abbrev pub mapMade : Made A → Made B
+  mapMade m = record { pad = f (m .pad); space = f (m .space); break = f (m .break) }
+
+  abbrev pub mapEdited : Edited A → Edited B
+  mapEdited d = edited (map f (d .text)) (mapWhole (d .inverse)) (d .cursor)
+
+-- Edits do the same whatever their elements carry beside: a map that keeps LF and space commutes with every edit.
+abbrev pub Natural : Type 1
+Natural =
+    (A B : Type 0) (f : A → B) (lf sp : A → Bool) (lf′ sp′ : B → Bool) → ((x : A) → lf′ (f x) ≡ lf x) → ((x : A) → sp′ (f x) ≡ sp x) → (made : Made A)
+    → (e : Edit) (x : List A) (first second : List ℕ) (t : List A)
+    → editedBy lf′ sp′ (mapMade f made) e (map f x) first second (map f t) ≡ mapEdited f (editedBy lf sp made e x first second t)
+
+-- The kinds and conditions of demand 3, by places and rows: "character deletes and replaces whose earlier end stands in the text
+-- at that moment; block deletes with no touched row shorter than the left column"; "A touched row is one that exists."
+abbrev pub Stands : List ℕ → Position → Type 0
+Stands t p = clamp isLF t p ≡ p
+
+abbrev pub RangeCondition : List ℕ → Position → Position → MotionKind → Type 0
+RangeCondition t p q Char = Stands t (earlier p q)
+RangeCondition t p q Lines = Unit {0}
+RangeCondition t p q Block =
+    (r : ℕ) → min (p .row .0) (q .row .0) ≤ r → r ≤ max (p .row .0) (q .row .0) → r ≤ lastRow isLF t → min (p .col .0) (q .col .0) ≤ rowLen isLF t r
+
+abbrev pub Condition : List ℕ → Edit → Type 0
+Condition t (InsertChar p) = Unit {0}
+Condition t (InsertStr p) = Unit {0}
+Condition t (DeleteRange p q k) = RangeCondition t p q k
+Condition t (JoinLines r n b) = Unit {0}
+Condition t (SplitLines r) = ⊥
+Condition t (Replace p q) = Stands t (earlier p q)
+Condition t (InsertBlock p) = Unit {0}
+Condition t (DeleteBlockChunks p) = ⊥
+
+-- "`undoable` says yes exactly for the kinds and conditions of demand 3"
+abbrev pub UndoableExactly : Type 0
+UndoableExactly = (t : List ℕ) (e : Edit) → (T (isUndoable t e) → Condition t e) × (Condition t e → T (isUndoable t e))
+
+-- an answer is settled by its number, its offset or what was done
+abbrev pub AnswerSettled : Type 0
+AnswerSettled = Settles paperAnswer

@@ -1,0 +1,80 @@
+// The port's types: a view, an edit with its numbers, and the answer to one. The text, the payload and the lists of an edit
+// are lent beside them as slices.
+use text::Position;
+use text::Row;
+use utf8::ByteOffset;
+
+// A text's used length in its buffer, the cursor, and how often the text was changed.
+pub struct View {
+    pub used: usize,
+    pub cursor: Position,
+    pub changes: u64,
+}
+
+pub enum MotionKind {
+    Char,
+    Line,
+    Block,
+}
+
+// Beside it a payload and two lists are lent: the payload is what InsertChar, InsertStr and Replace put in, and InsertBlock's
+// chunks one after another; the first list is InsertBlock's chunk lengths, SplitLines' columns or DeleteBlockChunks' widths;
+// the second is SplitLines' flags or DeleteBlockChunks' pads.
+pub enum Edit {
+    InsertChar {
+        at: Position,
+    },
+    InsertStr {
+        at: Position,
+    },
+    DeleteRange {
+        start: Position,
+        end: Position,
+        kind: MotionKind,
+    },
+    JoinLines {
+        row: Row,
+        count: u32,
+        with_space: bool,
+    },
+    SplitLines {
+        row: Row,
+    },
+    Replace {
+        start: Position,
+        end: Position,
+    },
+    InsertBlock {
+        at: Position,
+    },
+    DeleteBlockChunks {
+        at: Position,
+    },
+}
+
+pub enum Refusal {
+    BadText,
+    TooBig,
+    TooMany,
+    BadPayload,
+    BadUtf8(ByteOffset),
+    Reversed,
+    BeyondRow,
+    NoRoom,
+    NoRecord,
+    BadFrame,
+}
+
+// The view after an edit, the inverse, and how much of the inverse's slices was written.
+pub struct Applied {
+    pub view: View,
+    pub inverse: Edit,
+    pub payload: usize,
+    pub first: usize,
+    pub second: usize,
+}
+
+pub enum Answer {
+    Done(Applied),
+    Refused(Refusal),
+}
