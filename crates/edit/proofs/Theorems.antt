@@ -1,6 +1,6 @@
 -- The theorems of specs/Theorems.antt that are not proved beside their laws.
-use mathlib.Core.Path.{_≡_, refl, ap}
-use mathlib.Core.Bool.{cond}
+use mathlib.Core.Path.{_≡_, refl, ap, subst}
+use mathlib.Core.Bool.{Bool, true, false, cond}
 use mathlib.Core.List.{List, [], _∷_}
 use Prim.Native.Nat.{ℕ, zero, suc, _+_, _≤_, _<_}
 use native.Mathlib.Omega.{arith}
@@ -14,6 +14,7 @@ use Rattle.text.specs.Rows.{Line, line, lines, earlier, rowCount, lastRow, rowL
 use Rattle.text.specs.Text.{isLF}
 use Rattle.text.proofs.Laws.{count-pos}
 use Rattle.edit.specs.declared.MotionKind.the-variants.{Char, Line as Lines, Block}
+use Rattle.edit.specs.declared.Edit.{Edit}
 use Rattle.edit.specs.declared.Edit.the-variants.{InsertChar, InsertStr, DeleteRange, JoinLines, SplitLines, Replace, InsertBlock, DeleteBlockChunks}
 use Rattle.edit.specs.declared.Refusal.the-variants.{BadText, TooBig, TooMany, BadPayload, BadUtf8, Reversed, BeyondRow, NoRoom, NoRecord, BadFrame}
 use Rattle.edit.specs.declared.Refusal.{Refusal}
@@ -22,9 +23,9 @@ use Rattle.edit.specs.declared.Answer.{Answer}
 use Rattle.edit.specs.declared.Answer.the-variants.{Done, Refused}
 use Rattle.edit.specs.Edits.{corner, height}
 use Rattle.edit.specs.Refusals.{wide}
-use Rattle.edit.specs.Call.{paperAnswer, numberOf, offsetOf, rangeUndoable, isUndoable}
-use Rattle.edit.specs.Theorems.{Stands, RangeCondition, UndoableExactly, AnswerSettled}
-use Rattle.edit.proofs.Tests.{T-both, T-left, T-right}
+use Rattle.edit.specs.Call.{paperAnswer, numberOf, offsetOf, firstOf, textOf, givenTests, rangeUndoable, isUndoable, undoable}
+use Rattle.edit.specs.Theorems.{Stands, RangeCondition, Condition, UndoableExactly, AnswerSettled}
+use Rattle.edit.proofs.Tests.{T-true, T-both, T-left, T-right}
 use Rattle.edit.proofs.Undo.{in-text}
 
 -- ---- undoable
@@ -69,18 +70,37 @@ condition-block : (t : List ℕ) (p q : Position) → RangeCondition t p q Block
 unfolding rangeUndoable Wide lastRow rowCount rowLen
 condition-block t p q h = rows-wide (corner p q .col .0) (height p q) (corner p q .row .0) (lines isLF t) (λ r a b k. h r a (omega arith) (omega arith))
 
-pub undoable-exactly : UndoableExactly
+conditions : (t : List ℕ) (e : Edit) → (T (isUndoable t e) → Condition t e) × (Condition t e → T (isUndoable t e))
 unfolding isUndoable rangeUndoable
-undoable-exactly t (InsertChar p) = (λ h. tt, λ h. tt)
-undoable-exactly t (InsertStr p) = (λ h. tt, λ h. tt)
-undoable-exactly t (DeleteRange p q Char) = (in-text t (earlier p q), stands-in t (earlier p q))
-undoable-exactly t (DeleteRange p q Lines) = (λ h. tt, λ h. tt)
-undoable-exactly t (DeleteRange p q Block) = (block-condition t p q, condition-block t p q)
-undoable-exactly t (JoinLines r n b) = (λ h. tt, λ h. tt)
-undoable-exactly t (SplitLines r) = (λ h. h, λ h. h)
-undoable-exactly t (Replace p q) = (in-text t (earlier p q), stands-in t (earlier p q))
-undoable-exactly t (InsertBlock p) = (λ h. tt, λ h. tt)
-undoable-exactly t (DeleteBlockChunks p) = (λ h. h, λ h. h)
+conditions t (InsertChar p) = (λ h. tt, λ h. tt)
+conditions t (InsertStr p) = (λ h. tt, λ h. tt)
+conditions t (DeleteRange p q Char) = (in-text t (earlier p q), stands-in t (earlier p q))
+conditions t (DeleteRange p q Lines) = (λ h. tt, λ h. tt)
+conditions t (DeleteRange p q Block) = (block-condition t p q, condition-block t p q)
+conditions t (JoinLines r n b) = (λ h. tt, λ h. tt)
+conditions t (SplitLines r) = (λ h. h, λ h. h)
+conditions t (Replace p q) = (in-text t (earlier p q), stands-in t (earlier p q))
+conditions t (InsertBlock p) = (λ h. tt, λ h. tt)
+conditions t (DeleteBlockChunks p) = (λ h. h, λ h. h)
+
+-- where tests let one answer through, they let every answer through
+through : (xs : List (Bool × Refusal)) (b : Bool) → firstOf xs (done b) ≡ done true → (firstOf xs (done true) ≡ done true) × T b
+unfolding firstOf
+through [] b e = let z : true ≡ b = cc in (refl, subst T z tt)
+through (x ∷ xs) b e = go (x .0) refl e (through xs b)
+  where
+    go : (c : Bool) → x .0 ≡ c → cond c (refused (numberOf (x .1)) (offsetOf (x .1))) (firstOf xs (done b)) ≡ done true → (firstOf xs (done b) ≡ done true → (firstOf xs (done true) ≡ done true) × T b)
+        → (cond (x .0) (refused (numberOf (x .1)) (offsetOf (x .1))) (firstOf xs (done true)) ≡ done true) × T b
+    go true q e k = let w : refused (numberOf (x .1)) (offsetOf (x .1)) ≡ done true = e in let z : true ≡ false = cc in absurd (subst T z tt)
+    go false q e k = rw q (k e)
+
+pub undoable-exactly : UndoableExactly
+unfolding undoable
+undoable-exactly v e l =
+    let c = conditions (textOf v l) e in (
+      λ h. let g = through (givenTests v e l) (isUndoable (textOf v l) e) h in (g .0, c .0 (g .1)),
+      λ h. rw (T-true (isUndoable (textOf v l) e) (c .1 (h .1))) (h .0),
+    )
 
 -- ---- answers
 

@@ -61,7 +61,7 @@ pub record MarkedExamples : Type 0 where
   pub two : rowCount isLF (97 ∷ 10 ∷ []) ≡ 2
   -- "4. "ab/cdef", Char (0,99)-(1,2): "abef", inverse at (0,99) "/cd", cursor (0,4), not undoable."
   pub four : Gives abcdef (plain (DeleteRange (at 0 99) (at 1 2) Char) []) (97 ∷ 98 ∷ 101 ∷ 102 ∷ []) (plain (InsertStr (at 0 99)) (10 ∷ 99 ∷ 100 ∷ [])) (at 0 4)
-  pub four-undoable : undoable (opened abcdef .view) (DeleteRange (at 0 99) (at 1 2) Char) (lentAt (opened abcdef) (plain (InsertStr (at 0 0)) []) slices) ≡ done false
+  pub four-undoable : undoable (opened abcdef .view) (DeleteRange (at 0 99) (at 1 2) Char) (lentAt (opened abcdef) (plain (DeleteRange (at 0 99) (at 1 2) Char) []) slices) ≡ done false
   -- "5. "a/b", Line row 1: "a", inverse (0,1) "/b", cursor (0,0)."
   pub five : Gives (97 ∷ 10 ∷ 98 ∷ []) (plain (DeleteRange (at 1 0) (at 1 0) Lines) []) (97 ∷ []) (plain (InsertStr (at 0 1)) (10 ∷ 98 ∷ [])) (at 0 0)
   -- "6. "", Line: "" and empty inverse."

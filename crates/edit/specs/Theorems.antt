@@ -1,18 +1,19 @@
 -- What is proved of these definitions. Demand 3 has a file of its own, and so have the marked examples.
-use mathlib.Core.Bool.{Bool}
+use mathlib.Core.Bool.{Bool, true}
 use mathlib.Core.List.{List, map}
 use mathlib.Core.Path.{_≡_}
 use Prim.Native.Nat.{ℕ, _≤_, min, max}
-use lib.Dec.{T}
+use Rattle.promise.specs.Paper.{done}
 use Rattle.promise.specs.Settled.{Settles}
 use Rattle.text.specs.declared.Position.{Position}
 use Rattle.text.specs.Rows.{earlier, lastRow, rowLen, clamp}
 use Rattle.text.specs.Text.{isLF}
+use Rattle.edit.specs.declared.View.{View}
 use Rattle.edit.specs.declared.MotionKind.{MotionKind}
 use Rattle.edit.specs.declared.MotionKind.the-variants.{Char, Line as Lines, Block}
 use Rattle.edit.specs.declared.Edit.{Edit}
 use Rattle.edit.specs.declared.Edit.the-variants.{InsertChar, InsertStr, DeleteRange, JoinLines, SplitLines, Replace, InsertBlock, DeleteBlockChunks}
-use Rattle.edit.specs.Call.{paperAnswer, isUndoable}
+use Rattle.edit.specs.Call.{paperAnswer, firstOf, Lent, textOf, givenTests, undoable}
 use Rattle.edit.specs.Edits.{Whole, whole, Made, Edited, edited, editedBy}
 
 module _ {A B : Type 0} (f : A → B) where
@@ -53,9 +54,14 @@ Condition t (Replace p q) = Stands t (earlier p q)
 Condition t (InsertBlock p) = Unit {0}
 Condition t (DeleteBlockChunks p) = ⊥
 
--- "`undoable` says yes exactly for the kinds and conditions of demand 3"
+-- rows 1 to 4 do not refuse
+abbrev pub Given : View → Edit → Lent → Type 0
+Given v e l = firstOf (givenTests v e l) (done true) ≡ done true
+
+-- "`undoable` says yes exactly for the kinds and conditions of demand 3; it refuses by rows 1 to 4 below."
 abbrev pub UndoableExactly : Type 0
-UndoableExactly = (t : List ℕ) (e : Edit) → (T (isUndoable t e) → Condition t e) × (Condition t e → T (isUndoable t e))
+UndoableExactly =
+    (v : View) (e : Edit) (l : Lent) → (undoable v e l ≡ done true → Given v e l × Condition (textOf v l) e) × (Given v e l × Condition (textOf v l) e → undoable v e l ≡ done true)
 
 -- an answer is settled by its number, its offset or what was done
 abbrev pub AnswerSettled : Type 0
