@@ -18,7 +18,7 @@ use Rattle.edit.specs.declared.Applied.{Applied}
 use Rattle.edit.specs.Edits.{Whole, Edited}
 use Rattle.edit.specs.Refusals.{short, smallOk, fewOk, payloadOk, withinOk, Room, roomOk, recordOk}
 use Rattle.edit.specs.Call.{numberOf, offsetOf, firstOf, Lent, Outcome, outcome, resultOf, roomOf, givenTests, resultTests, nextView, appliedAs, leaves, applied, isUndoable, undoable}
-use Rattle.edit.specs.Demand3.{State, text, Slices, RecordRoom, lentAt, called, after, returned, Accepted, AcceptedOnce}
+use Rattle.edit.specs.Demand3.{State, text, Slices, lentAt, called, after, returned, Accepted, AcceptedOnce}
 use Rattle.edit.proofs.Tests.{T-true, T-left, T-right}
 use Rattle.edit.proofs.Accepted.{doing, full, holds, Fine, Step}
 
@@ -76,40 +76,63 @@ pub record Held (n : ℕ) (s : State) : Type 0 where
 abbrev pub next : State → Whole ℕ → State
 next s w = record { view = nextView (s .view) (doing w (text s)); buffer = renewed (s .buffer) (s .view .used) (doing w (text s) .text) }
 
-module _ (s : State) (w : Whole ℕ) (o : Slices) (room : RecordRoom s o) where
+module _ (s : State) (w : Whole ℕ) (o : Slices) where
   abbrev d : Edited ℕ
   d = doing w (text s)
 
   abbrev l : Lent
   l = lentAt s w o
 
+  abbrev Recorded : Type 0
+  Recorded = T (recordOk (roomOf l) (d .inverse))
+
   result-same : resultOf (s .view) (w .edit) l ≡ d
   unfolding resultOf
   result-same = refl
 
-  answered : s .view .used ≤ length (s .buffer) → Fine (length (s .buffer)) (text s) w
+  answered : s .view .used ≤ length (s .buffer) → Fine (length (s .buffer)) (text s) w → Recorded
       → firstOf (givenTests (s .view) (w .edit) l ++ resultTests (s .view) (w .edit) l) (done (appliedAs (s .view) (resultOf (s .view) (w .edit) l))) ≡ done (appliedAs (s .view) d)
   unfolding resultOf firstOf
-  answered h f = rw (
+  answered h f r = rw (
     T-true (textOk (s .buffer) (s .view .used)) (subst T (text-holds (s .buffer) (s .view .used) h) (f .textual)),
     T-true (smallOk (w .edit) (w .first) (w .second)) (f .smalls),
     T-true (fewOk (text s) (w .edit) (w .payload) (w .first) (w .second)) (f .fews),
     T-true (payloadOk (w .edit) (w .payload) (w .first)) (f .payloads),
     T-true (withinOk (text s) (w .edit) (w .first) (w .second)) (f .withins),
     T-true (roomOk (roomOf l) (d .text)) (room-same (length (s .buffer)) (roomOf l) (d .text) refl (f .rooms)),
-    T-true (recordOk (roomOf l) (d .inverse)) (record-more (length (s .buffer)) (roomOf l) (d .inverse) (room .payload) (room .first) (room .second) (f .records)),
+    T-true (recordOk (roomOf l) (d .inverse)) r,
   )
 
-  fine-called : s .view .used ≤ length (s .buffer) → Fine (length (s .buffer)) (text s) w
+  fine-called : s .view .used ≤ length (s .buffer) → Fine (length (s .buffer)) (text s) w → Recorded
       → called s w o
       ≡ outcome (done (appliedAs (s .view) d)) (renewed (s .buffer) (s .view .used) (d .text)) (over (d .inverse .payload) (o .payload)) (over (d .inverse .first) (o .first)) (over (d .inverse .second) (o .second))
   unfolding applied leaves
-  fine-called h f = rw (answered h f, result-same)
+  fine-called h f r = rw (answered h f r, result-same)
 
-  called-fine : (a : Applied) → called s w o .answer ≡ done a → length (o .payload) ≡ length (s .buffer) → length (o .first) ≡ 256 → length (o .second) ≡ 256
-      → (s .view .used ≤ length (s .buffer)) × Fine (length (s .buffer)) (text s) w
-  unfolding applied resultOf roomOk recordOk
-  called-fine a e p q r =
+  -- what the caller then has
+  fine-leaves : s .view .used ≤ length (s .buffer) → Fine (length (s .buffer)) (text s) w → Recorded
+      → (after (appliedAs (s .view) d) (called s w o) ≡ next s w) × (returned (appliedAs (s .view) d) (called s w o) ≡ d .inverse)
+  fine-leaves h f r =
+      let c = fine-called h f r in (
+        rw c,
+        rw (
+          c,
+          take-append-seam (d .inverse .payload) (drop (length (d .inverse .payload)) (o .payload)),
+          take-append-seam (d .inverse .first) (drop (length (d .inverse .first)) (o .first)),
+          take-append-seam (d .inverse .second) (drop (length (d .inverse .second)) (o .second)),
+        ),
+      )
+
+  -- what an accepted call shows
+  record Tested (a : Applied) : Type 0 where
+    within : s .view .used ≤ length (s .buffer)
+    recorded : Recorded
+    fine : T (recordOk (full (length (s .buffer))) (d .inverse)) → Fine (length (s .buffer)) (text s) w
+    answer : a ≡ appliedAs (s .view) d
+
+  tested : (a : Applied) → called s w o .answer ≡ done a → Tested a
+  unfolding applied resultOf roomOk
+  tested a e =
       let z = sym (leaves-answer (firstOf (givenTests (s .view) (w .edit) l ++ resultTests (s .view) (w .edit) l) (done (appliedAs (s .view) (resultOf (s .view) (w .edit) l)))) (s .view) l (resultOf (s .view) (w .edit) l)) ∙ e in
       let t1 = passed (textOk (s .buffer) (s .view .used)) _ _ _ _ z in
       let t2 = passed (smallOk (w .edit) (w .first) (w .second)) _ _ _ _ (t1 .1) in
@@ -118,33 +141,33 @@ module _ (s : State) (w : Whole ℕ) (o : Slices) (room : RecordRoom s o) where
       let t7 = passed (withinOk (text s) (w .edit) (w .first) (w .second)) _ _ _ _ (t4 .1) in
       let t8 = passed (roomOk (roomOf l) (d .text)) _ _ _ _ (t7 .1) in
       let t9 = passed (recordOk (roomOf l) (d .inverse)) _ _ _ _ (t8 .1) in
-      let h = text-used (s .buffer) (s .view .used) (t1 .0) in (
-        h,
-        record {
+      let q : done (appliedAs (s .view) d) ≡ done a = none-left _ _ (t9 .1) in
+      let h = text-used (s .buffer) (s .view .used) (t1 .0) in
+      record {
+        within = h;
+        recorded = t9 .0;
+        fine = λ r. record {
           textual = subst T (sym (text-holds (s .buffer) (s .view .used) h)) (t1 .0);
           smalls = t2 .0;
           fews = t3 .0;
           payloads = t4 .0;
           withins = t7 .0;
           rooms = t8 .0;
-          records = rw (p, q, r) at (t9 .0);
-        },
-      )
+          records = r;
+        };
+        answer = cc;
+      }
 
 -- an edit of the text is an edit by call, whatever the slices hold
 pub step-accepted : (n : ℕ) (s : State) (w : Whole ℕ) (u : List ℕ) (i : Whole ℕ) → Held n s → Step n (text s) w u i → Accepted s w (next s w) i
 step-accepted n s w u i k h o room =
     let d : Edited ℕ = doing w (text s) in
     let e : length (s .buffer) ≡ n = k .long in
-    let c = fine-called s w o room (omega (arith, k .within)) (rw e (h .fine)) in
-    let r : returned (appliedAs (s .view) d) (called s w o) ≡ d .inverse =
-    rw (
-      c,
-      take-append-seam (d .inverse .payload) (drop (length (d .inverse .payload)) (o .payload)),
-      take-append-seam (d .inverse .first) (drop (length (d .inverse .first)) (o .first)),
-      take-append-seam (d .inverse .second) (drop (length (d .inverse .second)) (o .second)),
-    ) in
-    (appliedAs (s .view) d, ap (λ (r : Outcome). r .answer) c, rw c, r ∙ h .inverse)
+    let f : Fine (length (s .buffer)) (text s) w = rw e (h .fine) in
+    let b : s .view .used ≤ length (s .buffer) = omega (arith, k .within) in
+    let r = record-more (length (s .buffer)) (roomOf (lentAt s w o)) (d .inverse) (room .payload) (room .first) (room .second) (f .records) in
+    let x = fine-leaves s w o b f r in
+    (appliedAs (s .view) d, ap (λ (r : Outcome). r .answer) (fine-called s w o b f r), x .0, x .1 ∙ h .inverse)
 
 -- what such a call leaves
 pub next-text : (s : State) (w : Whole ℕ) → text (next s w) ≡ doing w (text s) .text
@@ -157,7 +180,7 @@ next-held n s w k f =
     let h : length u ≤ n = leb→le (length u) n (T-left (leb (length u) n) (short u) (f .rooms)) in
     record { long = renewed-length (s .buffer) (s .view .used) u (omega (arith, k .long, k .within)) (omega (arith, k .long)) ∙ k .long; within = h }
 
--- and an edit accepted by call, with the room that is named, is one of the text
+-- and an edit accepted by call, with an inverse that the named room holds, is one of the text
 pub record Called (s : State) (w : Whole ℕ) (u : State) (i : Whole ℕ) : Type 0 where
   pub before : Held (length (s .buffer)) s
   pub fine : Fine (length (s .buffer)) (text s) w
@@ -171,37 +194,41 @@ called-accepted s w u i c =
     let h : Accepted s w (next s w) (d .inverse) = step-accepted n s w (d .text) (d .inverse) (c .before) (record { fine = c .fine; text = refl; inverse = refl }) in
     subst (λ (v : State). Accepted s w v i) (sym (c .state)) (subst (λ (j : Whole ℕ). Accepted s w (next s w) j) (sym (c .inverse)) h)
 
-module _ (s : State) (w : Whole ℕ) (o : Slices) (a : Applied) (p : length (o .payload) ≡ length (s .buffer)) (f : length (o .first) ≡ 256) (g : length (o .second) ≡ 256) (e : called s w o .answer ≡ done a) where
-  once-called : Called s w (after a (called s w o)) (returned a (called s w o))
-  once-called =
-      let n = length (s .buffer) in
-      let d : Edited ℕ = doing w (text s) in
-      let room : RecordRoom s o = record { payload = omega (arith, p); first = omega (arith, f); second = omega (arith, g) } in
-      let h = called-fine s w o room a e p f g in
-      let k : Held n s = record { long = refl; within = h .0 } in
-      let b = step-accepted n s w (d .text) (d .inverse) k (record { fine = h .1; text = refl; inverse = refl }) o room in
-      let q : done a ≡ done (b .0) = sym e ∙ b .1 in
-      let z : a ≡ b .0 = cc in
-      record {
-        before = k;
-        fine = h .1;
-        state = ap (λ (x : Applied). after x (called s w o)) z ∙ b .2;
-        inverse = ap (λ (x : Applied). returned x (called s w o)) z ∙ b .3;
-      }
+once-called : (s : State) (w : Whole ℕ) (o : Slices) (a : Applied) → called s w o .answer ≡ done a → T (recordOk (full (length (s .buffer))) (doing w (text s) .inverse))
+    → Called s w (after a (called s w o)) (returned a (called s w o))
+once-called s w o a e r =
+    let x = tested s w o a e in
+    let y = fine-leaves s w o (x .within) (x .fine r) (x .recorded) in
+    record {
+      before = record { long = refl; within = x .within };
+      fine = x .fine r;
+      state = ap (λ (b : Applied). after b (called s w o)) (x .answer) ∙ y .0;
+      inverse = ap (λ (b : Applied). returned b (called s w o)) (x .answer) ∙ y .1;
+    }
 
 pub accepted-once : AcceptedOnce
-accepted-once s w o a p f g e = called-accepted s w (after a (called s w o)) (returned a (called s w o)) (once-called s w o a p f g e)
+unfolding recordOk
+accepted-once s w o a e p f g =
+    let i : Whole ℕ = doing w (text s) .inverse in
+    let q = tested s w o a e .answer in
+    let lp : a .payload ≡ length (i .payload) = ap (λ (b : Applied). b .payload) q in
+    let lf : a .first ≡ length (i .first) = ap (λ (b : Applied). b .first) q in
+    let ls : a .second ≡ length (i .second) = ap (λ (b : Applied). b .second) q in
+    called-accepted s w (after a (called s w o)) (returned a (called s w o)) (once-called s w o a e
+    (rw (le-leb (length (i .payload)) (length (s .buffer)) (omega arith), le-leb (length (i .first)) 256 (omega arith), le-leb (length (i .second)) 256 (omega arith)) tt))
 
 abbrev exact : State → Slices
 exact s = record { payload = replicate (length (s .buffer)) 0; first = replicate 256 0; second = replicate 256 0 }
 
 pub accepted-called : (s : State) (w : Whole ℕ) (u : State) (i : Whole ℕ) → Accepted s w u i → Called s w u i
+unfolding recordOk
 accepted-called s w u i h =
     let o = exact s in
     let p : length (o .payload) ≡ length (s .buffer) = length-replicate {A = ℕ} (length (s .buffer)) 0 in
     let l : length (o .first) ≡ 256 = length-replicate {A = ℕ} 256 0 in
     let a = h o (record { payload = omega (arith, p); first = omega (arith, l); second = omega (arith, l) }) in
-    subst (λ (v : State). Called s w v i) (a .2) (subst (λ (j : Whole ℕ). Called s w (after (a .0) (called s w o)) j) (a .3) (once-called s w o (a .0) p l l (a .1)))
+    let r = rw (p, l) at (tested s w o (a .0) (a .1) .recorded) in
+    subst (λ (v : State). Called s w v i) (a .2) (subst (λ (j : Whole ℕ). Called s w (after (a .0) (called s w o)) j) (a .3) (once-called s w o (a .0) (a .1) r))
 
 -- `undoable` says yes only where the kind and its conditions are those of demand 3
 pub said-undoable : (s : State) (w : Whole ℕ) → undoable (s .view) (w .edit) (lentAt s w (record { payload = []; first = []; second = [] })) ≡ done true → T (isUndoable (text s) (w .edit))

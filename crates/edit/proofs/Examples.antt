@@ -13,7 +13,7 @@ use Rattle.edit.specs.Refusals.{sum, smallRange, smallOk, fewRows, fewOk
 use Rattle.edit.specs.Call.{firstOf, resultOf, leaves, applied, rangeUndoable, isUndoable, undoable}
 use Rattle.edit.specs.Runs.{Run, stop, step, edits, stages}
 use Rattle.edit.specs.Demand3.{State, text, lentAt, Undoable}
-use Rattle.edit.specs.Examples.{opened, MarkedExamples, FirstRefusals, sampleEdits, sampleTexts, SampleRun}
+use Rattle.edit.specs.Examples.{opened, MarkedExamples, FurtherExamples, FirstRefusals, sampleEdits, sampleTexts, SampleRun}
 use Rattle.edit.proofs.Accepted.{holds, doing, Fine}
 use Rattle.edit.proofs.Calls.{Held, next, step-accepted, next-held}
 
@@ -34,6 +34,24 @@ marked-examples = record {
   eleven = refl;
   eleven-refused = refl;
   fourteen = refl;
+}
+
+pub further-examples : FurtherExamples
+unfolding onto lines unlines rowCount lastRow rowLen rowStart clamp offset endOf inText admissible all textOk renewed scalar flatten inserted charsDeleted lineFrom lineTo linesDeleted replaced gap joinRow joinCols joinFlags put putAll padsOf pieces cutAll chunksOf anyFlag joined unspace splitFirst splitRow split blockInserted chunksDeleted rangeDeleted editedBy sum smallRange smallOk fewRows fewOk payloadOk withinFirst withinAll withinOk roomOk recordOk wide firstOf resultOf leaves applied rangeUndoable isUndoable undoable
+further-examples = record {
+  insert = refl;
+  join-below = refl;
+  line-below = refl;
+  split-no-space = refl;
+  split-past = refl;
+  split-surplus = refl;
+  chunk-padded = refl;
+  chunk-all = refl;
+  chunk-bare = refl;
+  big = refl;
+  many-chunks = refl;
+  many-rows = refl;
+  wraps = refl;
 }
 
 pub first-refusals : FirstRefusals

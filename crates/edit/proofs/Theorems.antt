@@ -1,5 +1,5 @@
 -- The theorems of specs/Theorems.antt that are not proved beside their laws.
-use mathlib.Core.Path.{_≡_, refl, ap, subst}
+use mathlib.Core.Path.{_≡_, refl, _∙_, ap, subst}
 use mathlib.Core.Bool.{Bool, true, false, cond}
 use mathlib.Core.List.{List, [], _∷_}
 use Prim.Native.Nat.{ℕ, zero, suc, _+_, _≤_, _<_}
@@ -94,13 +94,44 @@ through (x ∷ xs) b e = go (x .0) refl e (through xs b)
     go true q e k = let w : refused (numberOf (x .1)) (offsetOf (x .1)) ≡ done true = e in let z : true ≡ false = cc in absurd (subst T z tt)
     go false q e k = rw q (k e)
 
+-- a refusal does not look at the answer
+refused-first : (xs : List (Bool × Refusal)) (b : Bool) (n k : ℕ) → firstOf xs (done true) ≡ refused n k → firstOf xs (done b) ≡ refused n k
+unfolding firstOf
+refused-first [] b n k e = let w : done true ≡ refused n k = e in let z : true ≡ false = cc in absurd (subst T z tt)
+refused-first (x ∷ xs) b n k e = go (x .0) e (refused-first xs b n k)
+  where
+    go : (c : Bool) → cond c (refused (numberOf (x .1)) (offsetOf (x .1))) (firstOf xs (done true)) ≡ refused n k → (firstOf xs (done true) ≡ refused n k → firstOf xs (done b) ≡ refused n k)
+        → cond c (refused (numberOf (x .1)) (offsetOf (x .1))) (firstOf xs (done b)) ≡ refused n k
+    go true e k = e
+    go false e k = k e
+
+-- tests that let one answer through let the other through
+given-any : (xs : List (Bool × Refusal)) (b : Bool) → firstOf xs (done true) ≡ done true → firstOf xs (done b) ≡ done b
+unfolding firstOf
+given-any [] b e = refl
+given-any (x ∷ xs) b e = go (x .0) e (given-any xs b)
+  where
+    go : (c : Bool) → cond c (refused (numberOf (x .1)) (offsetOf (x .1))) (firstOf xs (done true)) ≡ done true → (firstOf xs (done true) ≡ done true → firstOf xs (done b) ≡ done b)
+        → cond c (refused (numberOf (x .1)) (offsetOf (x .1))) (firstOf xs (done b)) ≡ done b
+    go true e k = let w : refused (numberOf (x .1)) (offsetOf (x .1)) ≡ done true = e in let z : true ≡ false = cc in absurd (subst T z tt)
+    go false e k = k e
+
+no-false : (b : Bool) → (T b → ⊥) → b ≡ false
+no-false true h = absurd (h tt)
+no-false false h = refl
+
 pub undoable-exactly : UndoableExactly
 unfolding undoable
 undoable-exactly v e l =
-    let c = conditions (textOf v l) e in (
-      λ h. let g = through (givenTests v e l) (isUndoable (textOf v l) e) h in (g .0, c .0 (g .1)),
-      λ h. rw (T-true (isUndoable (textOf v l) e) (c .1 (h .1))) (h .0),
-    )
+    let b = isUndoable (textOf v l) e in
+    let c = conditions (textOf v l) e in
+    let any = given-any (givenTests v e l) b in
+    record {
+      yes = λ g h. any g ∙ ap {B = Paper Bool} (λ x. done x) (T-true b (c .1 h));
+      no = λ g h. any g ∙ ap {B = Paper Bool} (λ x. done x) (no-false b (λ y. h (c .0 y)));
+      only-yes = λ h. let g = through (givenTests v e l) b h in (g .0, c .0 (g .1));
+      refuses = λ n k h. refused-first (givenTests v e l) b n k h;
+    }
 
 -- ---- answers
 

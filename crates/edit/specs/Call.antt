@@ -54,7 +54,7 @@ paperAnswer (Refused r) = refused (numberOf r) (offsetOf r)
 
 -- ---- refusals in order
 
--- the first test that holds refuses
+-- "Each is given exactly when its row holds and no earlier one does": the first test that holds refuses
 unfoldable pub firstOf : {A : Type 0} → List (Bool × Refusal) → Paper A → Paper A
 firstOf [] a = a
 firstOf (x ∷ xs) a = cond (x .0) (refused (numberOf (x .1)) (offsetOf (x .1))) (firstOf xs a)
@@ -129,7 +129,7 @@ applied v e l = leaves (firstOf (givenTests v e l ++ resultTests v e l) (done (a
 
 -- ---- undoable
 
--- "insertions, line deletes, joins and block inserts freely; character deletes and replaces whose earlier end stands in the text
+-- demand 3: "insertions, line deletes, joins and block inserts freely; character deletes and replaces whose earlier end stands in the text
 -- at that moment; block deletes with no touched row shorter than the left column"
 unfoldable pub rangeUndoable : List ℕ → Position → Position → MotionKind → Bool
 rangeUndoable t p q Char = inText isLF t (earlier p q)
@@ -146,6 +146,6 @@ isUndoable t (Replace p q) = inText isLF t (earlier p q)
 isUndoable t (InsertBlock p) = true
 isUndoable t (DeleteBlockChunks p) = false
 
--- "it refuses by rows 1 to 4"
+-- "it refuses by rows 1 to 4"; the slices for an inverse are not read
 unfoldable pub undoable : View → Edit → Lent → Paper Bool
 undoable v e l = firstOf (givenTests v e l) (done (isUndoable (textOf v l) e))

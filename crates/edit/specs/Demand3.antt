@@ -56,17 +56,17 @@ returned a r = whole (a .inverse) (take (a .payload) (r .payload)) (take (a .fir
 abbrev pub Accepted : State → Whole ℕ → State → Whole ℕ → Type 0
 Accepted s w u i = (o : Slices) → RecordRoom s o → (a : Applied) × (called s w o .answer ≡ done a) × (after a (called s w o) ≡ u) × (returned a (called s w o) ≡ i)
 
--- Whoever saw the call accepted once, with the very room that is named, has that.
+-- Whoever saw the call accepted once, whatever was lent, with an inverse that the named room holds, has that.
 abbrev pub AcceptedOnce : Type 0
 AcceptedOnce =
-    (s : State) (w : Whole ℕ) (o : Slices) (a : Applied) → length (o .payload) ≡ length (s .buffer) → length (o .first) ≡ 256 → length (o .second) ≡ 256 → called s w o .answer ≡ done a
+    (s : State) (w : Whole ℕ) (o : Slices) (a : Applied) → called s w o .answer ≡ done a → a .payload ≤ length (s .buffer) → a .first ≤ 256 → a .second ≤ 256
     → Accepted s w (after a (called s w o)) (returned a (called s w o))
 
 -- and `undoable` says yes to it at that moment
 abbrev pub Undoable : State → Whole ℕ → State → Whole ℕ → Type 0
 Undoable s w u i = Accepted s w u i × (undoable (s .view) (w .edit) (lentAt s w (record { payload = []; first = []; second = [] })) ≡ done true)
 
--- "every returned inverse is accepted, and applying them last first gives back the text at each stage, character for character.
+-- demand 3: "every returned inverse is accepted, and applying them last first gives back the text at each stage, character for character.
 -- The inverses which those give, again applied last first, are accepted and rebuild the edited text at each stage."
 pub record Undone {s w : State} (r : Run Undoable s w) : Type 0 where
   pub origin : State
@@ -78,6 +78,6 @@ pub record Undone {s w : State} (r : Run Undoable s w) : Type 0 where
   pub again-edits : edits again ≡ reverse (inverses back)
   pub again-texts : map text (stages again) ≡ map text (stages r)
 
--- "Take a run of accepted edits"
+-- demand 3: "Take a run of accepted edits"
 abbrev pub Demand3 : Type 0
 Demand3 = (s w : State) (r : Run Undoable s w) → Undone r

@@ -53,7 +53,7 @@ module _ {A : Type 0} (lf : A → Bool) where
       let e = endOf lf (take o t ++ x) in
       edited (spliced t o o x) (whole (DeleteRange (clamp lf t p) e Char) [] [] []) e
 
-  -- the offsets that a cut goes from and up to: "cut if start is before end"
+  -- the offsets that a cut goes from and up to: "cut if start is before end", so ends that clamping put out of order cut nothing
   abbrev pub cutFrom : List A → Position → Position → ℕ
   cutFrom t p q = offset lf t (earlier p q)
 
@@ -156,7 +156,7 @@ module _ {A : Type 0} where
   chunksOf c (w ∷ ws) [] = [] ∷ chunksOf c ws []
   chunksOf c (w ∷ ws) (r ∷ rs) = take w (drop c (r .body)) ∷ chunksOf c ws rs
 
--- "A missing .. flag is no"; "yes unless 0"; "if any flag, surplus ones included, is yes"
+-- "if any flag, surplus ones included, is yes"
 unfoldable pub anyFlag : List ℕ → Bool
 anyFlag [] = false
 anyFlag (f ∷ fs) = not (eqb f 0) || anyFlag fs
@@ -190,12 +190,13 @@ module _ {A : Type 0} (lf sp : A → Bool) (made : Made A) where
   unspace (suc f) [] = []
   unspace (suc f) (x ∷ s) = cond (sp x) s (x ∷ s)
 
-  -- the first of these rows, split at a column
+  -- "then LF goes in. Flag no: the column is clamped to the row's length at that step": the first of these rows, split at a column,
+  -- where `take` and `drop` go no further than the row
   unfoldable pub splitFirst : ℕ → ℕ → List (Line A) → List (Line A)
   splitFirst c f [] = []
   splitFirst c f (r ∷ rs) = line (take c (r .body)) (made .break ∷ []) ∷ line (unspace f (drop c (r .body))) (r .after) ∷ rs
 
-  -- "columns taken last first"
+  -- "columns taken last first"; a flag that is missing is no
   unfoldable pub splitRow : Line A → List ℕ → List ℕ → List (Line A)
   splitRow r [] fs = r ∷ []
   splitRow r (c ∷ cs) fs = splitFirst c (getD fs 0 0) (splitRow r cs (drop 1 fs))
@@ -224,6 +225,7 @@ module _ {A : Type 0} (lf sp : A → Bool) (made : Made A) where
       let u = fromRow (lines lf t) (p .row .0) (cutAll (p .col .0) ws ds rs) in
       edited u (whole (InsertBlock p) (flatten ks) (map length ks) []) (clamp lf u p)
 
+  -- Block: chunks all of one width, at the corner of the range (see `corner`)
   unfoldable pub rangeDeleted : List A → Position → Position → MotionKind → Edited A
   rangeDeleted t p q Char = charsDeleted lf t p q
   rangeDeleted t p q Lines = linesDeleted lf t p q

@@ -1,5 +1,5 @@
--- Document 01's marked examples that concern texts and edits, each an equation of the whole call, and a run of every kind that
--- demand 3 names. In a text "/" is LF, 10; a is 97, X is 88, a space 32.
+-- Document 01's marked examples that concern texts and edits: 1 and 2 as row counts, the others as equations of the whole call.
+-- Then more of its sentences as examples, refusals in order, and a run of every kind that demand 3 names. In a text "/" is LF, 10; a is 97, X is 88, a space 32.
 use mathlib.Core.Path.{_≡_}
 use mathlib.Core.Bool.{true, false}
 use mathlib.Core.List.{List, [], _∷_, _++_, map}
@@ -12,8 +12,8 @@ use Rattle.text.specs.Text.{isLF}
 use Rattle.edit.specs.declared.MotionKind.the-variants.{Char, Line as Lines, Block}
 use Rattle.edit.specs.declared.Edit.{Edit}
 use Rattle.edit.specs.declared.Edit.the-variants.{InsertChar, InsertStr, DeleteRange, JoinLines, SplitLines, Replace, InsertBlock, DeleteBlockChunks}
-use Rattle.edit.specs.Edits.{Whole, whole, rowAt}
-use Rattle.edit.specs.Call.{outcome, undoable}
+use Rattle.edit.specs.Edits.{Whole, whole, edited, rowAt}
+use Rattle.edit.specs.Call.{outcome, nextView, undoable}
 use Rattle.edit.specs.Runs.{Run, edits, stages}
 use Rattle.edit.specs.Demand3.{State, text, Slices, lentAt, called, Undoable}
 
@@ -86,13 +86,49 @@ pub record MarkedExamples : Type 0 where
   pub fourteen :
       Gives abcdef (plain (Replace (at 0 99) (at 1 2)) (88 ∷ [])) (97 ∷ 98 ∷ 101 ∷ 102 ∷ 88 ∷ []) (plain (Replace (at 0 4) (at 0 5)) (10 ∷ 99 ∷ 100 ∷ [])) (at 0 5)
 
+-- ---- what the marked ones leave open
+
+-- "abc", "abcd" and "a/b/c"
+abbrev pub abc : List ℕ
+abc = 97 ∷ 98 ∷ 99 ∷ []
+
+abbrev pub abcdRow : List ℕ
+abcdRow = 97 ∷ 98 ∷ 99 ∷ 100 ∷ []
+
+abbrev pub threeRows : List ℕ
+threeRows = 97 ∷ 10 ∷ 98 ∷ 10 ∷ 99 ∷ []
+
+pub record FurtherExamples : Type 0 where
+  -- the edit of example 3: "ab/cd", "X/" at (0,1): "aX/b/cd", cursor (1,0)
+  pub insert :
+      Gives (97 ∷ 98 ∷ 10 ∷ 99 ∷ 100 ∷ []) (plain (InsertStr (at 0 1)) (88 ∷ 10 ∷ [])) (97 ∷ 88 ∷ 10 ∷ 98 ∷ 10 ∷ 99 ∷ 100 ∷ []) (plain (DeleteRange (at 0 1) (at 1 0) Char) []) (at 1 0)
+  -- "Cursor: (row,0)", "Cursor: lo .. column 0", below the first row
+  pub join-below : Gives threeRows (plain (JoinLines (rowAt 1) 1 false) []) (97 ∷ 10 ∷ 98 ∷ 99 ∷ []) (whole (SplitLines (rowAt 1)) [] (1 ∷ []) (0 ∷ [])) (at 1 0)
+  pub line-below : Gives threeRows (plain (DeleteRange (at 1 0) (at 1 0) Lines) []) (97 ∷ 10 ∷ 99 ∷ []) (plain (InsertStr (at 1 0)) (98 ∷ 10 ∷ [])) (at 1 0)
+  -- "a space at the column is removed if there": here none is
+  pub split-no-space : Gives abc (whole (SplitLines (rowAt 0)) [] (1 ∷ []) (1 ∷ [])) (97 ∷ 10 ∷ 98 ∷ 99 ∷ []) (plain (JoinLines (rowAt 0) 1 true) []) (at 0 0)
+  -- "Flag no: the column is clamped to the row's length at that step", and a missing flag is no
+  pub split-past : Gives abc (whole (SplitLines (rowAt 0)) [] (9 ∷ []) []) (97 ∷ 98 ∷ 99 ∷ 10 ∷ []) (plain (JoinLines (rowAt 0) 1 false) []) (at 0 0)
+  -- "if any flag, surplus ones included, is yes"
+  pub split-surplus : Gives abc (whole (SplitLines (rowAt 0)) [] (1 ∷ []) (0 ∷ 1 ∷ [])) (97 ∷ 10 ∷ 98 ∷ 99 ∷ []) (plain (JoinLines (rowAt 0) 1 true) []) (at 0 0)
+  -- "cut from column minus pad (not below 0) to column plus width": pad 1, pad 3, and none
+  pub chunk-padded : Gives abcdRow (whole (DeleteBlockChunks (at 0 2)) [] (1 ∷ []) (1 ∷ [])) (97 ∷ 100 ∷ []) (whole (InsertBlock (at 0 2)) (99 ∷ []) (1 ∷ []) []) (at 0 2)
+  pub chunk-all : Gives abcdRow (whole (DeleteBlockChunks (at 0 2)) [] (1 ∷ []) (3 ∷ [])) (100 ∷ []) (whole (InsertBlock (at 0 2)) (99 ∷ []) (1 ∷ []) []) (at 0 1)
+  pub chunk-bare : Gives abcdRow (whole (DeleteBlockChunks (at 0 2)) [] (1 ∷ []) []) (97 ∷ 98 ∷ 100 ∷ []) (whole (InsertBlock (at 0 2)) (99 ∷ []) (1 ∷ []) []) (at 0 2)
+  -- at the limits: 1,000,000 is no number too big; 256 chunks or rows pass 3, and only their record has no room here
+  pub big : Gives [] (plain (InsertStr (at 1_000_000 1_000_000)) []) [] (plain (DeleteRange (at 0 0) (at 0 0) Char) []) (at 0 0)
+  pub many-chunks : Refuses [] (whole (InsertBlock (at 0 0)) [] (replicate 256 0) []) 9
+  pub many-rows : Refuses [] (plain (DeleteRange (at 0 0) (at 255 0) Block) []) 9
+  -- "a 64-bit change counter that wraps"
+  pub wraps : nextView (record { used = 0; cursor = at 0 0; changes = 18_446_744_073_709_551_615 }) (edited [] (plain (InsertStr (at 0 0)) []) (at 0 0)) .changes ≡ 0
+
 -- ---- refusals in order
 
 -- "a/b/c/d/e/f"
 abbrev pub sixRows : List ℕ
 sixRows = 97 ∷ 10 ∷ 98 ∷ 10 ∷ 99 ∷ 10 ∷ 100 ∷ 10 ∷ 101 ∷ 10 ∷ 102 ∷ []
 
--- for each row of the table an edit that it refuses, and a later row would
+-- for each row that can refuse an edit one that it refuses, and a later row would too (9 is the last)
 pub record FirstRefusals : Type 0 where
   -- U+000D in the text, and a row of 1,000,001
   pub bad-text : Refuses (13 ∷ []) (plain (InsertStr (at 1_000_001 0)) []) 1
@@ -104,7 +140,7 @@ pub record FirstRefusals : Type 0 where
   pub bad-payload : Refuses [] (plain (InsertStr (at 0 0)) (replicate 17 13)) 4
   -- a full buffer split past its row
   pub beyond-row : Refuses (replicate 16 97) (whole (SplitLines (rowAt 0)) [] (17 ∷ []) (1 ∷ [])) 7
-  -- five chunks of six characters: the text is one too long, and so are their widths
+  -- five chunks, six characters in all: the text is one too long, and so is the list of widths
   pub no-room : Refuses sixRows (whole (InsertBlock (at 0 0)) (replicate 6 97) (2 ∷ 1 ∷ 1 ∷ 1 ∷ 1 ∷ []) []) 8
   -- five joins, and four places for their columns
   pub no-record : Refuses sixRows (plain (JoinLines (rowAt 0) 9 false) []) 9

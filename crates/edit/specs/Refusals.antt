@@ -124,7 +124,7 @@ recordOk R i = leb (length (i .payload)) (R .payload) && leb (length (i .first))
 
 -- ---- what demand 3 asks of an edit
 
--- "no touched row shorter than the left column"; "A touched row is one that exists."
+-- demand 3: "no touched row shorter than the left column"; document 01: "A touched row is one that exists."
 unfoldable pub wide : ℕ → List (Line ℕ) → Bool
 wide c [] = true
 wide c (r ∷ rs) = leb c (length (r .body)) && wide c rs

@@ -1,9 +1,9 @@
 -- What is proved of these definitions. Demand 3 has a file of its own, and so have the marked examples.
-use mathlib.Core.Bool.{Bool, true}
+use mathlib.Core.Bool.{Bool, true, false}
 use mathlib.Core.List.{List, map}
 use mathlib.Core.Path.{_≡_}
 use Prim.Native.Nat.{ℕ, _≤_, min, max}
-use Rattle.promise.specs.Paper.{done}
+use Rattle.promise.specs.Paper.{done, refused}
 use Rattle.promise.specs.Settled.{Settles}
 use Rattle.text.specs.declared.Position.{Position}
 use Rattle.text.specs.Rows.{earlier, lastRow, rowLen, clamp}
@@ -59,9 +59,14 @@ abbrev pub Given : View → Edit → Lent → Type 0
 Given v e l = firstOf (givenTests v e l) (done true) ≡ done true
 
 -- "`undoable` says yes exactly for the kinds and conditions of demand 3; it refuses by rows 1 to 4 below."
+pub record UndoableSays (v : View) (e : Edit) (l : Lent) : Type 0 where
+  pub yes : Given v e l → Condition (textOf v l) e → undoable v e l ≡ done true
+  pub no : Given v e l → (Condition (textOf v l) e → ⊥) → undoable v e l ≡ done false
+  pub only-yes : undoable v e l ≡ done true → Given v e l × Condition (textOf v l) e
+  pub refuses : (n k : ℕ) → firstOf (givenTests v e l) (done true) ≡ refused n k → undoable v e l ≡ refused n k
+
 abbrev pub UndoableExactly : Type 0
-UndoableExactly =
-    (v : View) (e : Edit) (l : Lent) → (undoable v e l ≡ done true → Given v e l × Condition (textOf v l) e) × (Given v e l × Condition (textOf v l) e → undoable v e l ≡ done true)
+UndoableExactly = (v : View) (e : Edit) (l : Lent) → UndoableSays v e l
 
 -- an answer is settled by its number, its offset or what was done
 abbrev pub AnswerSettled : Type 0

@@ -4,7 +4,7 @@ use text::Position;
 use text::Row;
 use utf8::ByteOffset;
 
-// A text's used length in its buffer, the cursor, and how often the text was changed.
+// A text's used length in its buffer, the cursor, and how many edits were accepted, modulo 2^64.
 pub struct View {
     pub used: usize,
     pub cursor: Position,
