@@ -6,7 +6,7 @@ use Prim.Native.Nat.{ℕ, _≤_}
 use native.Mathlib.Omega.{arith}
 use borrow.Author.Tests.{le-leb}
 use lib.Dec.{T, leb, leb→le}
-use lib.ListN.{length, take, drop, replicate, length-replicate}
+use lib.ListN.{length, take, drop, replicate, length-append, length-drop, length-replicate}
 use lib.Seq.{take-append-seam, length-take-le}
 use Rattle.promise.specs.Paper.{Paper, done, refused}
 use Rattle.promise.specs.Slices.{over}
@@ -15,10 +15,11 @@ use Rattle.text.proofs.Renewed.{renewed-text, renewed-length}
 use Rattle.edit.specs.declared.View.{View}
 use Rattle.edit.specs.declared.Refusal.{Refusal}
 use Rattle.edit.specs.declared.Applied.{Applied}
-use Rattle.edit.specs.Edits.{Whole, Edited}
+use Rattle.edit.specs.Edits.{Whole, whole, Edited}
 use Rattle.edit.specs.Refusals.{short, smallOk, fewOk, payloadOk, withinOk, Room, roomOk, recordOk}
 use Rattle.edit.specs.Call.{numberOf, offsetOf, firstOf, Lent, Outcome, outcome, resultOf, roomOf, givenTests, resultTests, nextView, appliedAs, leaves, applied, isUndoable, undoable}
 use Rattle.edit.specs.Demand3.{State, text, Slices, lentAt, called, after, returned, Accepted, AcceptedOnce}
+use Rattle.edit.specs.Theorems.{SameLengths, LengthsKept}
 use Rattle.edit.proofs.Tests.{T-true, T-left, T-right}
 use Rattle.edit.proofs.Accepted.{doing, full, holds, Fine, Step}
 
@@ -123,17 +124,25 @@ module _ (s : State) (w : Whole ℕ) (o : Slices) where
         ),
       )
 
+  first-answer : (p : Paper Applied) → called s w o .answer ≡ p
+      → firstOf (givenTests (s .view) (w .edit) l ++ resultTests (s .view) (w .edit) l) (done (appliedAs (s .view) (resultOf (s .view) (w .edit) l))) ≡ p
+  unfolding applied
+  first-answer p e =
+      sym (leaves-answer (firstOf (givenTests (s .view) (w .edit) l ++ resultTests (s .view) (w .edit) l) (done (appliedAs (s .view) (resultOf (s .view) (w .edit) l)))) (s .view) l (resultOf (s .view) (w .edit) l)) ∙ e
+
   -- what an accepted call shows
   record Tested (a : Applied) : Type 0 where
     within : s .view .used ≤ length (s .buffer)
     recorded : Recorded
     fine : T (recordOk (full (length (s .buffer))) (d .inverse)) → Fine (length (s .buffer)) (text s) w
     answer : a ≡ appliedAs (s .view) d
+    fits : length (d .text) ≤ length (s .buffer)
+    call : called s w o ≡ leaves (done a) (s .view) l d
 
   tested : (a : Applied) → called s w o .answer ≡ done a → Tested a
   unfolding applied resultOf roomOk
   tested a e =
-      let z = sym (leaves-answer (firstOf (givenTests (s .view) (w .edit) l ++ resultTests (s .view) (w .edit) l) (done (appliedAs (s .view) (resultOf (s .view) (w .edit) l)))) (s .view) l (resultOf (s .view) (w .edit) l)) ∙ e in
+      let z = first-answer (done a) e in
       let t1 = passed (textOk (s .buffer) (s .view .used)) _ _ _ _ z in
       let t2 = passed (smallOk (w .edit) (w .first) (w .second)) _ _ _ _ (t1 .1) in
       let t3 = passed (fewOk (text s) (w .edit) (w .payload) (w .first) (w .second)) _ _ _ _ (t2 .1) in
@@ -156,7 +165,47 @@ module _ (s : State) (w : Whole ℕ) (o : Slices) where
           records = r;
         };
         answer = cc;
+        fits = leb→le (length (d .text)) (length (s .buffer)) (T-left (leb (length (d .text)) (length (s .buffer))) (short (d .text)) (t8 .0));
+        call = rw z;
       }
+
+-- ---- lengths
+
+over-length : (xs out : List ℕ) → length xs ≤ length out → length (over xs out) ≡ length out
+over-length xs out h = simp (length-append, length-drop) (omega arith)
+
+record-fits : (R : Room) (i : Whole ℕ) → T (recordOk R i) → (length (i .payload) ≤ R .payload) × (length (i .first) ≤ R .first) × (length (i .second) ≤ R .second)
+unfolding recordOk
+record-fits R i h =
+    let a = leb (length (i .payload)) (R .payload) in
+    let b = leb (length (i .first)) (R .first) in
+    let c = leb (length (i .second)) (R .second) in (
+      leb→le (length (i .payload)) (R .payload) (T-left a b (T-left (a && b) c h)),
+      leb→le (length (i .first)) (R .first) (T-right a b (T-left (a && b) c h)),
+      leb→le (length (i .second)) (R .second) (T-right (a && b) c h),
+    )
+
+kept : (s : State) (w : Whole ℕ) (o : Slices) (p : Paper Applied) → called s w o .answer ≡ p → SameLengths (lentAt s w o) (called s w o)
+unfolding applied leaves
+kept s w o (done a) e =
+    let x = tested s w o a e in
+    let d : Edited ℕ = doing w (text s) in
+    let f = record-fits (roomOf (lentAt s w o)) (d .inverse) (x .recorded) in
+    rw (x .call) (record {
+      text = renewed-length (s .buffer) (s .view .used) (d .text) (x .within) (x .fits);
+      payload = over-length (d .inverse .payload) (o .payload) (f .0);
+      first = over-length (d .inverse .first) (o .first) (f .1);
+      second = over-length (d .inverse .second) (o .second) (f .2);
+    })
+kept s w o (refused n k) e =
+    rw (first-answer s w o (refused n k) e) (record { text = refl; payload = refl; first = refl; second = refl })
+
+pub lengths-kept : LengthsKept
+lengths-kept v e l =
+    let s : State = record { view = v; buffer = l .buffer } in
+    let w : Whole ℕ = whole e (l .payload) (l .first) (l .second) in
+    let o : Slices = record { payload = l .outPayload; first = l .outFirst; second = l .outSecond } in
+    kept s w o (called s w o .answer) refl
 
 -- an edit of the text is an edit by call, whatever the slices hold
 pub step-accepted : (n : ℕ) (s : State) (w : Whole ℕ) (u : List ℕ) (i : Whole ℕ) → Held n s → Step n (text s) w u i → Accepted s w (next s w) i

@@ -3,6 +3,7 @@ use mathlib.Core.Bool.{Bool, true, false}
 use mathlib.Core.List.{List, map}
 use mathlib.Core.Path.{_≡_}
 use Prim.Native.Nat.{ℕ, _≤_, min, max}
+use lib.ListN.{length}
 use Rattle.promise.specs.Paper.{done, refused}
 use Rattle.promise.specs.Settled.{Settles}
 use Rattle.text.specs.declared.Position.{Position}
@@ -13,7 +14,7 @@ use Rattle.edit.specs.declared.MotionKind.{MotionKind}
 use Rattle.edit.specs.declared.MotionKind.the-variants.{Char, Line as Lines, Block}
 use Rattle.edit.specs.declared.Edit.{Edit}
 use Rattle.edit.specs.declared.Edit.the-variants.{InsertChar, InsertStr, DeleteRange, JoinLines, SplitLines, Replace, InsertBlock, DeleteBlockChunks}
-use Rattle.edit.specs.Call.{paperAnswer, firstOf, Lent, textOf, givenTests, undoable}
+use Rattle.edit.specs.Call.{paperAnswer, firstOf, Lent, textOf, givenTests, Outcome, applied, undoable}
 use Rattle.edit.specs.Edits.{Whole, whole, Made, Edited, edited, editedBy}
 
 module _ {A B : Type 0} (f : A → B) where
@@ -67,6 +68,16 @@ pub record UndoableSays (v : View) (e : Edit) (l : Lent) : Type 0 where
 
 abbrev pub UndoableExactly : Type 0
 UndoableExactly = (v : View) (e : Edit) (l : Lent) → UndoableSays v e l
+
+-- A call keeps the length of every slice, accepted or not.
+pub record SameLengths (l : Lent) (r : Outcome) : Type 0 where
+  pub text : length (r .text) ≡ length (l .buffer)
+  pub payload : length (r .payload) ≡ length (l .outPayload)
+  pub first : length (r .first) ≡ length (l .outFirst)
+  pub second : length (r .second) ≡ length (l .outSecond)
+
+abbrev pub LengthsKept : Type 0
+LengthsKept = (v : View) (e : Edit) (l : Lent) → SameLengths l (applied v e l)
 
 -- an answer is settled by its number, its offset or what was done
 abbrev pub AnswerSettled : Type 0
