@@ -10,6 +10,7 @@ use lib.ListN.{length, take, drop, replicate, length-append, length-drop, length
 use lib.Seq.{take-append-seam, length-take-le}
 use Rattle.promise.specs.Paper.{Paper, done, refused}
 use Rattle.promise.specs.Slices.{over}
+use Rattle.text.specs.Rows.{at}
 use Rattle.text.specs.Text.{admissible, textOk, renewed, all}
 use Rattle.text.proofs.Renewed.{renewed-text, renewed-length}
 use Rattle.edit.specs.declared.View.{View}
@@ -17,8 +18,8 @@ use Rattle.edit.specs.declared.Refusal.{Refusal}
 use Rattle.edit.specs.declared.Applied.{Applied}
 use Rattle.edit.specs.Edits.{Whole, whole, Edited}
 use Rattle.edit.specs.Refusals.{short, smallOk, fewOk, payloadOk, withinOk, Room, roomOk, recordOk}
-use Rattle.edit.specs.Call.{numberOf, offsetOf, firstOf, Lent, Outcome, outcome, resultOf, roomOf, givenTests, resultTests, nextView, appliedAs, leaves, applied, isUndoable, undoable}
-use Rattle.edit.specs.Demand3.{State, text, Slices, lentAt, called, after, returned, Accepted, AcceptedOnce}
+use Rattle.edit.specs.Call.{numberOf, offsetOf, firstOf, Lent, Outcome, outcome, resultOf, roomOf, givenTests, resultTests, appliedAs, leaves, applied, isUndoable, undoable}
+use Rattle.edit.specs.Demand3.{State, text, Beside, viewAt, lentAt, called, after, returned, Accepted, AcceptedOnce}
 use Rattle.edit.specs.Theorems.{SameLengths, LengthsKept}
 use Rattle.edit.proofs.Tests.{T-true, T-left, T-right}
 use Rattle.edit.proofs.Accepted.{doing, full, holds, Fine, Step}
@@ -72,12 +73,12 @@ record-more n R i p f s h =
 -- a state whose used length is within its buffer of n places
 pub record Held (n : ℕ) (s : State) : Type 0 where
   pub long : length (s .buffer) ≡ n
-  pub within : s .view .used ≤ n
+  pub within : s .used ≤ n
 
 abbrev pub next : State → Whole ℕ → State
-next s w = record { view = nextView (s .view) (doing w (text s)); buffer = renewed (s .buffer) (s .view .used) (doing w (text s) .text) }
+next s w = record { used = length (doing w (text s) .text); buffer = renewed (s .buffer) (s .used) (doing w (text s) .text) }
 
-module _ (s : State) (w : Whole ℕ) (o : Slices) where
+module _ (s : State) (w : Whole ℕ) (o : Beside) where
   abbrev d : Edited ℕ
   d = doing w (text s)
 
@@ -87,15 +88,15 @@ module _ (s : State) (w : Whole ℕ) (o : Slices) where
   abbrev Recorded : Type 0
   Recorded = T (recordOk (roomOf l) (d .inverse))
 
-  result-same : resultOf (s .view) (w .edit) l ≡ d
+  result-same : resultOf (viewAt s o) (w .edit) l ≡ d
   unfolding resultOf
   result-same = refl
 
-  answered : s .view .used ≤ length (s .buffer) → Fine (length (s .buffer)) (text s) w → Recorded
-      → firstOf (givenTests (s .view) (w .edit) l ++ resultTests (s .view) (w .edit) l) (done (appliedAs (s .view) (resultOf (s .view) (w .edit) l))) ≡ done (appliedAs (s .view) d)
+  answered : s .used ≤ length (s .buffer) → Fine (length (s .buffer)) (text s) w → Recorded
+      → firstOf (givenTests (viewAt s o) (w .edit) l ++ resultTests (viewAt s o) (w .edit) l) (done (appliedAs (viewAt s o) (resultOf (viewAt s o) (w .edit) l))) ≡ done (appliedAs (viewAt s o) d)
   unfolding resultOf firstOf
   answered h f r = rw (
-    T-true (textOk (s .buffer) (s .view .used)) (subst T (text-holds (s .buffer) (s .view .used) h) (f .textual)),
+    T-true (textOk (s .buffer) (s .used)) (subst T (text-holds (s .buffer) (s .used) h) (f .textual)),
     T-true (smallOk (w .edit) (w .first) (w .second)) (f .smalls),
     T-true (fewOk (text s) (w .edit) (w .payload) (w .first) (w .second)) (f .fews),
     T-true (payloadOk (w .edit) (w .payload) (w .first)) (f .payloads),
@@ -104,15 +105,15 @@ module _ (s : State) (w : Whole ℕ) (o : Slices) where
     T-true (recordOk (roomOf l) (d .inverse)) r,
   )
 
-  fine-called : s .view .used ≤ length (s .buffer) → Fine (length (s .buffer)) (text s) w → Recorded
+  fine-called : s .used ≤ length (s .buffer) → Fine (length (s .buffer)) (text s) w → Recorded
       → called s w o
-      ≡ outcome (done (appliedAs (s .view) d)) (renewed (s .buffer) (s .view .used) (d .text)) (over (d .inverse .payload) (o .payload)) (over (d .inverse .first) (o .first)) (over (d .inverse .second) (o .second))
+      ≡ outcome (done (appliedAs (viewAt s o) d)) (renewed (s .buffer) (s .used) (d .text)) (over (d .inverse .payload) (o .payload)) (over (d .inverse .first) (o .first)) (over (d .inverse .second) (o .second))
   unfolding applied leaves
   fine-called h f r = rw (answered h f r, result-same)
 
   -- what the caller then has
-  fine-leaves : s .view .used ≤ length (s .buffer) → Fine (length (s .buffer)) (text s) w → Recorded
-      → (after (appliedAs (s .view) d) (called s w o) ≡ next s w) × (returned (appliedAs (s .view) d) (called s w o) ≡ d .inverse)
+  fine-leaves : s .used ≤ length (s .buffer) → Fine (length (s .buffer)) (text s) w → Recorded
+      → (after (appliedAs (viewAt s o) d) (called s w o) ≡ next s w) × (returned (appliedAs (viewAt s o) d) (called s w o) ≡ d .inverse)
   fine-leaves h f r =
       let c = fine-called h f r in (
         rw c,
@@ -125,38 +126,38 @@ module _ (s : State) (w : Whole ℕ) (o : Slices) where
       )
 
   first-answer : (p : Paper Applied) → called s w o .answer ≡ p
-      → firstOf (givenTests (s .view) (w .edit) l ++ resultTests (s .view) (w .edit) l) (done (appliedAs (s .view) (resultOf (s .view) (w .edit) l))) ≡ p
+      → firstOf (givenTests (viewAt s o) (w .edit) l ++ resultTests (viewAt s o) (w .edit) l) (done (appliedAs (viewAt s o) (resultOf (viewAt s o) (w .edit) l))) ≡ p
   unfolding applied
   first-answer p e =
-      sym (leaves-answer (firstOf (givenTests (s .view) (w .edit) l ++ resultTests (s .view) (w .edit) l) (done (appliedAs (s .view) (resultOf (s .view) (w .edit) l)))) (s .view) l (resultOf (s .view) (w .edit) l)) ∙ e
+      sym (leaves-answer (firstOf (givenTests (viewAt s o) (w .edit) l ++ resultTests (viewAt s o) (w .edit) l) (done (appliedAs (viewAt s o) (resultOf (viewAt s o) (w .edit) l)))) (viewAt s o) l (resultOf (viewAt s o) (w .edit) l)) ∙ e
 
   -- what an accepted call shows
   record Tested (a : Applied) : Type 0 where
-    within : s .view .used ≤ length (s .buffer)
+    within : s .used ≤ length (s .buffer)
     recorded : Recorded
     fine : T (recordOk (full (length (s .buffer))) (d .inverse)) → Fine (length (s .buffer)) (text s) w
-    answer : a ≡ appliedAs (s .view) d
+    answer : a ≡ appliedAs (viewAt s o) d
     fits : length (d .text) ≤ length (s .buffer)
-    call : called s w o ≡ leaves (done a) (s .view) l d
+    call : called s w o ≡ leaves (done a) (viewAt s o) l d
 
   tested : (a : Applied) → called s w o .answer ≡ done a → Tested a
   unfolding applied resultOf roomOk
   tested a e =
       let z = first-answer (done a) e in
-      let t1 = passed (textOk (s .buffer) (s .view .used)) _ _ _ _ z in
+      let t1 = passed (textOk (s .buffer) (s .used)) _ _ _ _ z in
       let t2 = passed (smallOk (w .edit) (w .first) (w .second)) _ _ _ _ (t1 .1) in
       let t3 = passed (fewOk (text s) (w .edit) (w .payload) (w .first) (w .second)) _ _ _ _ (t2 .1) in
       let t4 = passed (payloadOk (w .edit) (w .payload) (w .first)) _ _ _ _ (t3 .1) in
       let t7 = passed (withinOk (text s) (w .edit) (w .first) (w .second)) _ _ _ _ (t4 .1) in
       let t8 = passed (roomOk (roomOf l) (d .text)) _ _ _ _ (t7 .1) in
       let t9 = passed (recordOk (roomOf l) (d .inverse)) _ _ _ _ (t8 .1) in
-      let q : done (appliedAs (s .view) d) ≡ done a = none-left _ _ (t9 .1) in
-      let h = text-used (s .buffer) (s .view .used) (t1 .0) in
+      let q : done (appliedAs (viewAt s o) d) ≡ done a = none-left _ _ (t9 .1) in
+      let h = text-used (s .buffer) (s .used) (t1 .0) in
       record {
         within = h;
         recorded = t9 .0;
         fine = λ r. record {
-          textual = subst T (sym (text-holds (s .buffer) (s .view .used) h)) (t1 .0);
+          textual = subst T (sym (text-holds (s .buffer) (s .used) h)) (t1 .0);
           smalls = t2 .0;
           fews = t3 .0;
           payloads = t4 .0;
@@ -185,14 +186,14 @@ record-fits R i h =
       leb→le (length (i .second)) (R .second) (T-right (a && b) c h),
     )
 
-kept : (s : State) (w : Whole ℕ) (o : Slices) (p : Paper Applied) → called s w o .answer ≡ p → SameLengths (lentAt s w o) (called s w o)
+kept : (s : State) (w : Whole ℕ) (o : Beside) (p : Paper Applied) → called s w o .answer ≡ p → SameLengths (lentAt s w o) (called s w o)
 unfolding applied leaves
 kept s w o (done a) e =
     let x = tested s w o a e in
     let d : Edited ℕ = doing w (text s) in
     let f = record-fits (roomOf (lentAt s w o)) (d .inverse) (x .recorded) in
     rw (x .call) (record {
-      text = renewed-length (s .buffer) (s .view .used) (d .text) (x .within) (x .fits);
+      text = renewed-length (s .buffer) (s .used) (d .text) (x .within) (x .fits);
       payload = over-length (d .inverse .payload) (o .payload) (f .0);
       first = over-length (d .inverse .first) (o .first) (f .1);
       second = over-length (d .inverse .second) (o .second) (f .2);
@@ -202,9 +203,9 @@ kept s w o (refused n k) e =
 
 pub lengths-kept : LengthsKept
 lengths-kept v e l =
-    let s : State = record { view = v; buffer = l .buffer } in
+    let s : State = record { used = v .used; buffer = l .buffer } in
     let w : Whole ℕ = whole e (l .payload) (l .first) (l .second) in
-    let o : Slices = record { payload = l .outPayload; first = l .outFirst; second = l .outSecond } in
+    let o : Beside = record { cursor = v .cursor; changes = v .changes; payload = l .outPayload; first = l .outFirst; second = l .outSecond } in
     kept s w o (called s w o .answer) refl
 
 -- an edit of the text is an edit by call, whatever the slices hold
@@ -213,21 +214,21 @@ step-accepted n s w u i k h o room =
     let d : Edited ℕ = doing w (text s) in
     let e : length (s .buffer) ≡ n = k .long in
     let f : Fine (length (s .buffer)) (text s) w = rw e (h .fine) in
-    let b : s .view .used ≤ length (s .buffer) = omega (arith, k .within) in
+    let b : s .used ≤ length (s .buffer) = omega (arith, k .within) in
     let r = record-more (length (s .buffer)) (roomOf (lentAt s w o)) (d .inverse) (room .payload) (room .first) (room .second) (f .records) in
     let x = fine-leaves s w o b f r in
-    (appliedAs (s .view) d, ap (λ (r : Outcome). r .answer) (fine-called s w o b f r), x .0, x .1 ∙ h .inverse)
+    (appliedAs (viewAt s o) d, ap (λ (r : Outcome). r .answer) (fine-called s w o b f r), x .0, x .1 ∙ h .inverse)
 
 -- what such a call leaves
 pub next-text : (s : State) (w : Whole ℕ) → text (next s w) ≡ doing w (text s) .text
-next-text s w = renewed-text (s .buffer) (s .view .used) (doing w (text s) .text)
+next-text s w = renewed-text (s .buffer) (s .used) (doing w (text s) .text)
 
 pub next-held : (n : ℕ) (s : State) (w : Whole ℕ) → Held n s → Fine n (text s) w → Held n (next s w)
 unfolding roomOk
 next-held n s w k f =
     let u : List ℕ = doing w (text s) .text in
     let h : length u ≤ n = leb→le (length u) n (T-left (leb (length u) n) (short u) (f .rooms)) in
-    record { long = renewed-length (s .buffer) (s .view .used) u (omega (arith, k .long, k .within)) (omega (arith, k .long)) ∙ k .long; within = h }
+    record { long = renewed-length (s .buffer) (s .used) u (omega (arith, k .long, k .within)) (omega (arith, k .long)) ∙ k .long; within = h }
 
 -- and an edit accepted by call, with an inverse that the named room holds, is one of the text
 pub record Called (s : State) (w : Whole ℕ) (u : State) (i : Whole ℕ) : Type 0 where
@@ -243,7 +244,7 @@ called-accepted s w u i c =
     let h : Accepted s w (next s w) (d .inverse) = step-accepted n s w (d .text) (d .inverse) (c .before) (record { fine = c .fine; text = refl; inverse = refl }) in
     subst (λ (v : State). Accepted s w v i) (sym (c .state)) (subst (λ (j : Whole ℕ). Accepted s w (next s w) j) (sym (c .inverse)) h)
 
-once-called : (s : State) (w : Whole ℕ) (o : Slices) (a : Applied) → called s w o .answer ≡ done a → T (recordOk (full (length (s .buffer))) (doing w (text s) .inverse))
+once-called : (s : State) (w : Whole ℕ) (o : Beside) (a : Applied) → called s w o .answer ≡ done a → T (recordOk (full (length (s .buffer))) (doing w (text s) .inverse))
     → Called s w (after a (called s w o)) (returned a (called s w o))
 once-called s w o a e r =
     let x = tested s w o a e in
@@ -266,8 +267,8 @@ accepted-once s w o a e p f g =
     called-accepted s w (after a (called s w o)) (returned a (called s w o)) (once-called s w o a e
     (rw (le-leb (length (i .payload)) (length (s .buffer)) (omega arith), le-leb (length (i .first)) 256 (omega arith), le-leb (length (i .second)) 256 (omega arith)) tt))
 
-abbrev exact : State → Slices
-exact s = record { payload = replicate (length (s .buffer)) 0; first = replicate 256 0; second = replicate 256 0 }
+abbrev pub exact : State → Beside
+exact s = record { cursor = at 0 0; changes = 0; payload = replicate (length (s .buffer)) 0; first = replicate 256 0; second = replicate 256 0 }
 
 pub accepted-called : (s : State) (w : Whole ℕ) (u : State) (i : Whole ℕ) → Accepted s w u i → Called s w u i
 unfolding recordOk
@@ -280,10 +281,10 @@ accepted-called s w u i h =
     subst (λ (v : State). Called s w v i) (a .2) (subst (λ (j : Whole ℕ). Called s w (after (a .0) (called s w o)) j) (a .3) (once-called s w o (a .0) (a .1) r))
 
 -- `undoable` says yes only where the kind and its conditions are those of demand 3
-pub said-undoable : (s : State) (w : Whole ℕ) → undoable (s .view) (w .edit) (lentAt s w (record { payload = []; first = []; second = [] })) ≡ done true → T (isUndoable (text s) (w .edit))
+pub said-undoable : (s : State) (w : Whole ℕ) (o : Beside) → undoable (viewAt s o) (w .edit) (lentAt s w o) ≡ done true → T (isUndoable (text s) (w .edit))
 unfolding undoable
-said-undoable s w e =
-    let t1 = passed (textOk (s .buffer) (s .view .used)) _ _ _ _ e in
+said-undoable s w o e =
+    let t1 = passed (textOk (s .buffer) (s .used)) _ _ _ _ e in
     let t2 = passed (smallOk (w .edit) (w .first) (w .second)) _ _ _ _ (t1 .1) in
     let t3 = passed (fewOk (text s) (w .edit) (w .payload) (w .first) (w .second)) _ _ _ _ (t2 .1) in
     let t4 = passed (payloadOk (w .edit) (w .payload) (w .first)) _ _ _ _ (t3 .1) in

@@ -7,7 +7,7 @@ use Rattle.edit.specs.Edits.{Whole}
 use Rattle.edit.specs.Runs.{Run, stop, step, edits, inverses, stages}
 use Rattle.edit.specs.Demand3.{State, text, Accepted, Undoable, Undone, Demand3}
 use Rattle.edit.proofs.Accepted.{Step}
-use Rattle.edit.proofs.Calls.{Held, next, step-accepted, next-text, next-held, Called, accepted-called, said-undoable}
+use Rattle.edit.proofs.Calls.{Held, next, step-accepted, next-text, next-held, Called, accepted-called, said-undoable, exact}
 use Rattle.edit.proofs.Undo.{Good, undone-texts}
 
 -- ---- calls carry out a run of edits of texts
@@ -61,7 +61,7 @@ read n (step {s = s} {u = u} {e = w} {i = i} h r) k =
     let d = read n r (g .0) in
     record {
       held = d .held;
-      run = step (g .1, said-undoable s w (h .1)) (d .run);
+      run = step (g .1, said-undoable s w (exact s) (h .1 (exact s))) (d .run);
       same-inverses = ap {B = List (Whole ℕ)} (λ l. i ∷ l) (d .same-inverses);
       same-texts = ap {B = List (List ℕ)} (λ l. text s ∷ l) (d .same-texts);
     }

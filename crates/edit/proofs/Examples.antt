@@ -12,7 +12,7 @@ use Rattle.edit.specs.Edits.{inserted, charsDeleted, lineFrom, lineTo, l
 use Rattle.edit.specs.Refusals.{sum, smallRange, smallOk, fewRows, fewOk, payloadOk, withinFirst, withinAll, withinOk, roomOk, recordOk, wide}
 use Rattle.edit.specs.Call.{firstOf, resultOf, leaves, applied, rangeUndoable, isUndoable, undoable}
 use Rattle.edit.specs.Runs.{Run, stop, step, edits, stages}
-use Rattle.edit.specs.Demand3.{State, text, lentAt, Undoable}
+use Rattle.edit.specs.Demand3.{State, text, Beside, viewAt, lentAt, Undoable}
 use Rattle.edit.specs.Examples.{opened, MarkedExamples, FurtherExamples, FirstRefusals, sampleEdits, sampleTexts, SampleRun}
 use Rattle.edit.proofs.Accepted.{holds, doing, Fine}
 use Rattle.edit.proofs.Calls.{Held, next, step-accepted, next-held}
@@ -71,7 +71,7 @@ lastFrom s (w ∷ ws) = lastFrom (next s w) ws
 data Passes : State → List (Whole ℕ) → Type 0 where
   none : {s : State} → Passes s []
   more : {s : State} {w : Whole ℕ} {ws : List (Whole ℕ)} → Fine 16 (text s) w
-      → undoable (s .view) (w .edit) (lentAt s w (record { payload = []; first = []; second = [] })) ≡ done true → Passes (next s w) ws → Passes s (w ∷ ws)
+      → ((o : Beside) → undoable (viewAt s o) (w .edit) (lentAt s w o) ≡ done true) → Passes (next s w) ws → Passes s (w ∷ ws)
 
 record Ran (s : State) (ws : List (Whole ℕ)) : Type 0 where
   run : Run Undoable s (lastFrom s ws)
@@ -95,14 +95,14 @@ start = opened (97 ∷ 98 ∷ 10 ∷ 99 ∷ [])
 passes : Passes start sampleEdits
 unfolding holds onto lines unlines rowCount lastRow rowLen rowStart clamp offset endOf inText admissible all textOk renewed scalar flatten inserted charsDeleted lineFrom lineTo linesDeleted replaced gap joinRow joinCols joinFlags put putAll padsOf pieces cutAll chunksOf anyFlag joined unspace splitFirst splitRow split blockInserted chunksDeleted rangeDeleted editedBy sum smallRange smallOk fewRows fewOk payloadOk withinFirst withinAll withinOk roomOk recordOk wide firstOf resultOf leaves applied rangeUndoable isUndoable undoable
 passes =
-    more (record { textual = tt; smalls = tt; fews = tt; payloads = tt; withins = tt; rooms = tt; records = tt }) refl
-    (more (record { textual = tt; smalls = tt; fews = tt; payloads = tt; withins = tt; rooms = tt; records = tt }) refl
-    (more (record { textual = tt; smalls = tt; fews = tt; payloads = tt; withins = tt; rooms = tt; records = tt }) refl
-    (more (record { textual = tt; smalls = tt; fews = tt; payloads = tt; withins = tt; rooms = tt; records = tt }) refl
-    (more (record { textual = tt; smalls = tt; fews = tt; payloads = tt; withins = tt; rooms = tt; records = tt }) refl
-    (more (record { textual = tt; smalls = tt; fews = tt; payloads = tt; withins = tt; rooms = tt; records = tt }) refl
-    (more (record { textual = tt; smalls = tt; fews = tt; payloads = tt; withins = tt; rooms = tt; records = tt }) refl
-    (more (record { textual = tt; smalls = tt; fews = tt; payloads = tt; withins = tt; rooms = tt; records = tt }) refl
+    more (record { textual = tt; smalls = tt; fews = tt; payloads = tt; withins = tt; rooms = tt; records = tt }) (λ o. refl)
+    (more (record { textual = tt; smalls = tt; fews = tt; payloads = tt; withins = tt; rooms = tt; records = tt }) (λ o. refl)
+    (more (record { textual = tt; smalls = tt; fews = tt; payloads = tt; withins = tt; rooms = tt; records = tt }) (λ o. refl)
+    (more (record { textual = tt; smalls = tt; fews = tt; payloads = tt; withins = tt; rooms = tt; records = tt }) (λ o. refl)
+    (more (record { textual = tt; smalls = tt; fews = tt; payloads = tt; withins = tt; rooms = tt; records = tt }) (λ o. refl)
+    (more (record { textual = tt; smalls = tt; fews = tt; payloads = tt; withins = tt; rooms = tt; records = tt }) (λ o. refl)
+    (more (record { textual = tt; smalls = tt; fews = tt; payloads = tt; withins = tt; rooms = tt; records = tt }) (λ o. refl)
+    (more (record { textual = tt; smalls = tt; fews = tt; payloads = tt; withins = tt; rooms = tt; records = tt }) (λ o. refl)
     none)))))))
 
 sample-texts : map text (statesFrom start sampleEdits) ≡ sampleTexts

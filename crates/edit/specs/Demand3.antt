@@ -1,37 +1,43 @@
 -- Demand 3, over the call itself: its views, its buffers and every slice that it is lent.
 use mathlib.Core.Path.{_≡_}
 use mathlib.Core.Bool.{true}
-use mathlib.Core.List.{List, [], map, reverse}
+use mathlib.Core.List.{List, map, reverse}
 use Prim.Native.Nat.{ℕ, _≤_}
 use lib.ListN.{length, take}
 use Rattle.promise.specs.Paper.{done}
+use Rattle.text.specs.declared.Position.{Position}
 use Rattle.edit.specs.declared.View.{View}
 use Rattle.edit.specs.declared.Applied.{Applied}
 use Rattle.edit.specs.Edits.{Whole, whole}
 use Rattle.edit.specs.Call.{Lent, Outcome, applied, undoable}
 use Rattle.edit.specs.Runs.{Run, edits, inverses, stages}
 
--- what a caller keeps between calls
+-- what a caller keeps between calls; "The cursor and change counter are no part of this."
 pub record State : Type 0 where
-  pub view : View
+  pub used : ℕ
   pub buffer : List ℕ
 
 abbrev pub text : State → List ℕ
-text s = take (s .view .used) (s .buffer)
+text s = take (s .used) (s .buffer)
 
--- the slices that a call is lent for its inverse
-pub record Slices : Type 0 where
+-- what a call is handed beside: a cursor, a counter, and the slices for the inverse
+pub record Beside : Type 0 where
+  pub cursor : Position
+  pub changes : ℕ
   pub payload : List ℕ
   pub first : List ℕ
   pub second : List ℕ
 
 -- "Demand 3's record room is a payload slice as long as the text buffer and 256 items in each list slice." More room serves too.
-pub record RecordRoom (s : State) (o : Slices) : Type 0 where
+pub record RecordRoom (s : State) (o : Beside) : Type 0 where
   pub payload : length (s .buffer) ≤ length (o .payload)
   pub first : 256 ≤ length (o .first)
   pub second : 256 ≤ length (o .second)
 
-abbrev pub lentAt : State → Whole ℕ → Slices → Lent
+abbrev pub viewAt : State → Beside → View
+viewAt s o = record { used = s .used; cursor = o .cursor; changes = o .changes }
+
+abbrev pub lentAt : State → Whole ℕ → Beside → Lent
 lentAt s w o = record {
   buffer = s .buffer;
   payload = w .payload;
@@ -42,29 +48,29 @@ lentAt s w o = record {
   outSecond = o .second;
 }
 
-abbrev pub called : State → Whole ℕ → Slices → Outcome
-called s w o = applied (s .view) (w .edit) (lentAt s w o)
+abbrev pub called : State → Whole ℕ → Beside → Outcome
+called s w o = applied (viewAt s o) (w .edit) (lentAt s w o)
 
 -- what the caller has after an accepted call: the state, and the inverse as it stands in the slices
 abbrev pub after : Applied → Outcome → State
-after a r = record { view = a .view; buffer = r .text }
+after a r = record { used = a .view .used; buffer = r .text }
 
 abbrev pub returned : Applied → Outcome → Whole ℕ
 returned a r = whole (a .inverse) (take (a .payload) (r .payload)) (take (a .first) (r .first)) (take (a .second) (r .second))
 
--- with the record room, whatever it holds, edit w is accepted at s and leaves u and the inverse i
+-- with any cursor and counter and the record room, whatever it holds, edit w is accepted at s and leaves u and the inverse i
 abbrev pub Accepted : State → Whole ℕ → State → Whole ℕ → Type 0
-Accepted s w u i = (o : Slices) → RecordRoom s o → (a : Applied) × (called s w o .answer ≡ done a) × (after a (called s w o) ≡ u) × (returned a (called s w o) ≡ i)
+Accepted s w u i = (o : Beside) → RecordRoom s o → (a : Applied) × (called s w o .answer ≡ done a) × (after a (called s w o) ≡ u) × (returned a (called s w o) ≡ i)
 
 -- Whoever saw the call accepted once, whatever was lent, with an inverse that the named room holds, has that.
 abbrev pub AcceptedOnce : Type 0
 AcceptedOnce =
-    (s : State) (w : Whole ℕ) (o : Slices) (a : Applied) → called s w o .answer ≡ done a → a .payload ≤ length (s .buffer) → a .first ≤ 256 → a .second ≤ 256
+    (s : State) (w : Whole ℕ) (o : Beside) (a : Applied) → called s w o .answer ≡ done a → a .payload ≤ length (s .buffer) → a .first ≤ 256 → a .second ≤ 256
     → Accepted s w (after a (called s w o)) (returned a (called s w o))
 
 -- and `undoable` says yes to it at that moment
 abbrev pub Undoable : State → Whole ℕ → State → Whole ℕ → Type 0
-Undoable s w u i = Accepted s w u i × (undoable (s .view) (w .edit) (lentAt s w (record { payload = []; first = []; second = [] })) ≡ done true)
+Undoable s w u i = Accepted s w u i × ((o : Beside) → undoable (viewAt s o) (w .edit) (lentAt s w o) ≡ done true)
 
 -- demand 3: "every returned inverse is accepted, and applying them last first gives back the text at each stage, character for character.
 -- The inverses which those give, again applied last first, are accepted and rebuild the edited text at each stage."

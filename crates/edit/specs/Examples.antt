@@ -15,19 +15,19 @@ use Rattle.edit.specs.declared.Edit.the-variants.{InsertChar, InsertStr,
 use Rattle.edit.specs.Edits.{Whole, whole, edited, rowAt}
 use Rattle.edit.specs.Call.{outcome, nextView, undoable}
 use Rattle.edit.specs.Runs.{Run, edits, stages}
-use Rattle.edit.specs.Demand3.{State, text, Slices, lentAt, called, Undoable}
+use Rattle.edit.specs.Demand3.{State, text, Beside, viewAt, lentAt, called, Undoable}
 
 -- a text in a buffer of 16 places, with 7 in those behind it; slices of 8 and 4 places, full of 9
 abbrev pub opened : List ℕ → State
-opened t = record { view = record { used = length t; cursor = at 0 0; changes = 0 }; buffer = t ++ replicate (16 - length t) 7 }
+opened t = record { used = length t; buffer = t ++ replicate (16 - length t) 7 }
 
-abbrev pub slices : Slices
-slices = record { payload = replicate 8 9; first = replicate 4 9; second = replicate 4 9 }
+abbrev pub beside : Beside
+beside = record { cursor = at 0 0; changes = 0; payload = replicate 8 9; first = replicate 4 9; second = replicate 4 9 }
 
 -- the edit w of the text t leaves the text u, the inverse i and the cursor c; zeros where the text shrank, and all else as it was
 abbrev pub Gives : List ℕ → Whole ℕ → List ℕ → Whole ℕ → Position → Type 0
 Gives t w u i c =
-    called (opened t) w slices
+    called (opened t) w beside
     ≡ outcome
     (done (record {
       view = record { used = length u; cursor = c; changes = 1 };
@@ -41,7 +41,7 @@ Gives t w u i c =
 
 -- it is refused by this number, and nothing lent changes
 abbrev pub Refuses : List ℕ → Whole ℕ → ℕ → Type 0
-Refuses t w n = called (opened t) w slices ≡ outcome (refused n 0) (opened t .buffer) (slices .payload) (slices .first) (slices .second)
+Refuses t w n = called (opened t) w beside ≡ outcome (refused n 0) (opened t .buffer) (beside .payload) (beside .first) (beside .second)
 
 abbrev pub plain : Edit → List ℕ → Whole ℕ
 plain e x = whole e x [] []
@@ -61,7 +61,7 @@ pub record MarkedExamples : Type 0 where
   pub two : rowCount isLF (97 ∷ 10 ∷ []) ≡ 2
   -- "4. "ab/cdef", Char (0,99)-(1,2): "abef", inverse at (0,99) "/cd", cursor (0,4), not undoable."
   pub four : Gives abcdef (plain (DeleteRange (at 0 99) (at 1 2) Char) []) (97 ∷ 98 ∷ 101 ∷ 102 ∷ []) (plain (InsertStr (at 0 99)) (10 ∷ 99 ∷ 100 ∷ [])) (at 0 4)
-  pub four-undoable : undoable (opened abcdef .view) (DeleteRange (at 0 99) (at 1 2) Char) (lentAt (opened abcdef) (plain (DeleteRange (at 0 99) (at 1 2) Char) []) slices) ≡ done false
+  pub four-undoable : undoable (viewAt (opened abcdef) beside) (DeleteRange (at 0 99) (at 1 2) Char) (lentAt (opened abcdef) (plain (DeleteRange (at 0 99) (at 1 2) Char) []) beside) ≡ done false
   -- "5. "a/b", Line row 1: "a", inverse (0,1) "/b", cursor (0,0)."
   pub five : Gives (97 ∷ 10 ∷ 98 ∷ []) (plain (DeleteRange (at 1 0) (at 1 0) Lines) []) (97 ∷ []) (plain (InsertStr (at 0 1)) (10 ∷ 98 ∷ [])) (at 0 0)
   -- "6. "", Line: "" and empty inverse."
