@@ -3,11 +3,12 @@ use mathlib.Core.Path.{_≡_}
 use mathlib.Core.Bool.{Bool, _&&_}
 use mathlib.Core.List.{List}
 use Prim.Native.Nat.{ℕ, _≤_}
+use borrow.Author.Tests.{le-leb}
 use lib.Dec.{T, leb, leb→le}
 use lib.ListN.{length}
 use Rattle.text.specs.Text.{isLF, admissible, all}
 use Rattle.edit.specs.Edits.{Whole, Edited, editedBy}
-use Rattle.edit.proofs.Tests.{T-both, T-left, T-right}
+use Rattle.promise.proofs.Bools.{T-both, T-left, T-right}
 use Rattle.edit.specs.Refusals.{isSpace, spaces, short, smallOk, fewOk, payloadOk, withinOk, Room, roomOk, recordOk}
 
 -- ---- a text and an edit
@@ -66,3 +67,19 @@ module _ (n : ℕ) (t : List ℕ) (h : Ok n t) where
 pub ok-both : (n : ℕ) (t : List ℕ) → T (roomOk (full n) t) → T (all admissible t) → Ok n t
 unfolding holds roomOk
 ok-both n t h k = T-both (leb (length t) n && short t) (all admissible t) h k
+
+-- a record has room where each of its parts has
+pub record-room : (R : Room) (i : Whole ℕ) → length (i .payload) ≤ R .payload → length (i .first) ≤ R .first → length (i .second) ≤ R .second → T (recordOk R i)
+unfolding recordOk
+record-room R i p f s = rw (le-leb (length (i .payload)) (R .payload) p, le-leb (length (i .first)) (R .first) f, le-leb (length (i .second)) (R .second) s) tt
+
+pub record-fits : (R : Room) (i : Whole ℕ) → T (recordOk R i) → (length (i .payload) ≤ R .payload) × (length (i .first) ≤ R .first) × (length (i .second) ≤ R .second)
+unfolding recordOk
+record-fits R i h =
+    let a = leb (length (i .payload)) (R .payload) in
+    let b = leb (length (i .first)) (R .first) in
+    let c = leb (length (i .second)) (R .second) in (
+      leb→le (length (i .payload)) (R .payload) (T-left a b (T-left (a && b) c h)),
+      leb→le (length (i .first)) (R .first) (T-right a b (T-left (a && b) c h)),
+      leb→le (length (i .second)) (R .second) (T-right (a && b) c h),
+    )

@@ -20,9 +20,10 @@ use Rattle.edit.specs.declared.Edit.the-variants.{DeleteRange, InsertBlo
 use Rattle.edit.specs.Edits.{Whole, whole, Edited, edited, fromRow, put, putAll, padsOf, pieces, cutAll, chunksOf, blockInserted, chunksDeleted, corner, height, breadth, rangeDeleted, editedBy}
 use Rattle.edit.specs.Refusals.{isSpace, spaces, sum, small, smallPosition, smallRange, smallOk, few, short, fewRows, fewOk, payloadOk, withinOk, roomOk, recordOk, wide}
 use Rattle.edit.specs.Call.{rangeUndoable}
-use Rattle.edit.proofs.Tests.{T-true, T-both, T-left, T-right, all-append, all-left, all-right, all-take, all-drop}
+use Rattle.promise.proofs.Bools.{T-true, T-both, T-left, T-right}
+use Rattle.text.proofs.Alls.{all-append, all-left, all-right, all-take, all-drop}
 use Rattle.edit.proofs.Accepted.{full, Ok, Fine, Step, Back, ok-room, ok-fits, ok-short, ok-admissible, ok-both}
-use Rattle.edit.proofs.Ended.{notLF, Plain, Ended, final, ended, lines-ended, lines-unlines}
+use Rattle.text.proofs.Ended.{notLF, Plain, Ended, final, ended, lines-ended, lines-unlines}
 
 -- ---- one row
 
@@ -310,6 +311,12 @@ module _ (n : ℕ) (t : List ℕ) (h : Ok n t) (j : ℕ) (S : Rows) where
   lines-changed : Alike notLF (drop j (lines isLF t)) S → lines isLF changed ≡ take j (lines isLF t) ++ S
   lines-changed s = lines-unlines (alike-ended (lines-ended t) (alike-from notLF j (ended-each (lines-ended t)) s))
 
+  above-changed : Alike notLF (drop j (lines isLF t)) S → take j (lines isLF changed) ≡ take j (lines isLF t)
+  above-changed s = rw (lines-changed s) (take-changed j (lines isLF t) S (alike-length notLF s))
+
+  below-changed : Alike notLF (drop j (lines isLF t)) S → drop j (lines isLF changed) ≡ S
+  below-changed s = rw (lines-changed s) (drop-changed j (lines isLF t) S (alike-length notLF s))
+
   ok-changed : Alike admissible (drop j (lines isLF t)) S → T (roomOk (full n) changed) → Ok n changed
   ok-changed s r = ok-both n changed r (alike-all admissible (alike-from admissible j each-here s) (rw (unlines-lines isLF t) (ok-admissible n t h)))
 
@@ -317,8 +324,9 @@ good-space : T (admissible 32)
 unfolding admissible scalar
 good-space = tt
 
-col-small : (p : Position) → T (smallPosition p) → p .col .0 ≤ 1_000_000
-col-small p h = leb→le (p .col .0) 1_000_000 (T-right (small (p .row .0)) (small (p .col .0)) h)
+small-both : (p : Position) → T (smallPosition p) → (p .row .0 ≤ 1_000_000) × (p .col .0 ≤ 1_000_000)
+small-both p h =
+    (leb→le (p .row .0) 1_000_000 (T-left (small (p .row .0)) (small (p .col .0)) h), leb→le (p .col .0) 1_000_000 (T-right (small (p .row .0)) (small (p .col .0)) h))
 
 -- ---- the two edits are accepted
 
@@ -407,17 +415,14 @@ module _ (n : ℕ) (t : List ℕ) (h : Ok n t) (p : Position) (at-small : T (sma
   good-S = alike-put admissible good-space c ks ka (good-below n t h j S)
 
   module _ (room : T (roomOk (full n) u)) where
-    lines-u : lines isLF u ≡ take j (lines isLF t) ++ S
-    lines-u = lines-changed n t h j S plain-S
-
     ok-u : Ok n u
     ok-u = ok-changed n t h j S good-S room
 
     above-u : take j (lines isLF u) ≡ take j (lines isLF t)
-    above-u = rw lines-u (take-changed j (lines isLF t) S (alike-length notLF plain-S))
+    above-u = above-changed n t h j S plain-S
 
     below-u : drop j (lines isLF u) ≡ S
-    below-u = rw lines-u (drop-changed j (lines isLF t) S (alike-length notLF plain-S))
+    below-u = below-changed n t h j S plain-S
 
     abbrev ks′ : Chunks
     ks′ = chunksOf c (map length ks) S
@@ -425,7 +430,7 @@ module _ (n : ℕ) (t : List ℕ) (h : Ok n t) (p : Position) (at-small : T (sma
     cut-u : Step n u (whole (DeleteBlockChunks p) [] (map length ks) (padsOf c ks B)) t (whole (InsertBlock p) (flatten ks′) (map length ks′) [])
     cut-u =
         let e : fromRow (lines isLF u) j (cutAll c (map length ks) (padsOf c ks B) (drop j (lines isLF u))) ≡ t = rw (above-u, below-u, cut-put c ks B, take-append-drop j (lines isLF t)) (unlines-lines isLF t) in
-        rw below-u at (step-cut n u ok-u p at-small (map length ks) (padsOf c ks B) ksmall (padsOf-small c ks B (col-small p at-small)) (rw (length-map ks length) few) (rw (padsOf-length c ks B) few) t e (ok-room n t h))
+        rw below-u at (step-cut n u ok-u p at-small (map length ks) (padsOf c ks B) ksmall (padsOf-small c ks B (small-both p at-small .1)) (rw (length-map ks length) few) (rw (padsOf-length c ks B) few) t e (ok-room n t h))
 
     put-t : Step n t (whole (InsertBlock p) (flatten ks′) (map length ks′) []) u (whole (DeleteBlockChunks p) [] (map length ks′) (padsOf c ks′ B))
     put-t =
@@ -463,17 +468,14 @@ module _ (n : ℕ) (t : List ℕ) (h : Ok n t) (p : Position) (at-small : T (sma
   plain-C = alike-cut notLF d ws [] (plain-below n t h i C)
 
   module _ (room : T (roomOk (full n) v)) where
-    lines-v : lines isLF v ≡ take i (lines isLF t) ++ C
-    lines-v = lines-changed n t h i C plain-C
-
     ok-v : Ok n v
     ok-v = ok-changed n t h i C (alike-cut admissible d ws [] (good-below n t h i C)) room
 
     above-v : take i (lines isLF v) ≡ take i (lines isLF t)
-    above-v = rw lines-v (take-changed i (lines isLF t) C (alike-length notLF plain-C))
+    above-v = above-changed n t h i C plain-C
 
     below-v : drop i (lines isLF v) ≡ C
-    below-v = rw lines-v (drop-changed i (lines isLF t) C (alike-length notLF plain-C))
+    below-v = below-changed n t h i C plain-C
 
     qs-few : length qs ≤ 256
     qs-few = rw (chunksOf-length d ws D) few
@@ -489,7 +491,7 @@ module _ (n : ℕ) (t : List ℕ) (h : Ok n t) (p : Position) (at-small : T (sma
     cut-t : Step n t (whole (DeleteBlockChunks p) [] (map length qs) (padsOf d qs C)) v (whole (InsertBlock p) (flatten (chunksOf d (map length qs) D)) (map length (chunksOf d (map length qs) D)) [])
     cut-t =
         let e : fromRow (lines isLF t) i (cutAll d (map length qs) (padsOf d qs C) D) ≡ v = rw (cut-again d ws D enough) in
-        step-cut n t h p at-small (map length qs) (padsOf d qs C) (lengths-small qs (omega (arith, qs-short))) (padsOf-small d qs C (col-small p at-small)) (rw (length-map qs length) qs-few) (rw (padsOf-length d qs C) qs-few) v e room
+        step-cut n t h p at-small (map length qs) (padsOf d qs C) (lengths-small qs (omega (arith, qs-short))) (padsOf-small d qs C (small-both p at-small .1)) (rw (length-map qs length) qs-few) (rw (padsOf-length d qs C) qs-few) v e room
 
     back-cut : Back n t v (whole (InsertBlock p) (flatten qs) (map length qs) [])
     back-cut = (_, _, put-v, cut-t)
@@ -509,10 +511,6 @@ back-block-insert n t p x ns s f =
     subst (λ (ms : List ℕ). Back n t (blockInserted isLF isSpace spaces t p x ns .text) (whole (DeleteBlockChunks p) [] ms (padsOf (p .col .0) ks (drop (p .row .0) (lines isLF t))))) e
     (back-put n t (f .textual) p a ks l (pieces-all admissible ns x (T-left (all admissible x) (all notLF x) good)) (pieces-all notLF ns x (T-right (all admissible x) (all notLF x) good))
     (rw e (T-right (smallPosition p) (all small ns) (f .smalls))) (f .rooms))
-
-small-both : (p : Position) → T (smallPosition p) → (p .row .0 ≤ 1_000_000) × (p .col .0 ≤ 1_000_000)
-small-both p h =
-    (leb→le (p .row .0) 1_000_000 (T-left (small (p .row .0)) (small (p .col .0)) h), leb→le (p .col .0) 1_000_000 (T-right (small (p .row .0)) (small (p .col .0)) h))
 
 pub back-block-delete : (n : ℕ) (t : List ℕ) (p q : Position) (x g s : List ℕ) → Fine n t (whole (DeleteRange p q Block) x g s) → T (rangeUndoable t p q Block)
     → Back n t (rangeDeleted isLF isSpace spaces t p q Block .text) (rangeDeleted isLF isSpace spaces t p q Block .inverse)

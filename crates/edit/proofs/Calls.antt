@@ -4,7 +4,6 @@ use mathlib.Core.Bool.{Bool, true, false, not, _&&_}
 use mathlib.Core.List.{List, [], _∷_, _++_}
 use Prim.Native.Nat.{ℕ, _≤_}
 use native.Mathlib.Omega.{arith}
-use borrow.Author.Tests.{le-leb}
 use lib.Dec.{T, leb, leb→le}
 use lib.ListN.{length, take, drop, replicate, length-append, length-drop, length-replicate}
 use lib.Seq.{take-append-seam, length-take-le}
@@ -21,8 +20,8 @@ use Rattle.edit.specs.Refusals.{short, smallOk, fewOk, payloadOk, within
 use Rattle.edit.specs.Call.{numberOf, offsetOf, firstOf, Lent, Outcome, outcome, resultOf, roomOf, givenTests, resultTests, appliedAs, leaves, applied, isUndoable, undoable}
 use Rattle.edit.specs.Demand3.{State, text, Beside, viewAt, lentAt, called, after, returned, Accepted, AcceptedOnce}
 use Rattle.edit.specs.Theorems.{SameLengths, LengthsKept}
-use Rattle.edit.proofs.Tests.{T-true, T-left, T-right}
-use Rattle.edit.proofs.Accepted.{doing, full, holds, Fine, Step}
+use Rattle.promise.proofs.Bools.{T-true, T-left}
+use Rattle.edit.proofs.Accepted.{doing, full, holds, Fine, Step, record-room, record-fits}
 
 -- ---- a list of tests
 
@@ -60,13 +59,7 @@ room-same n R u e h = rw e h
 
 -- more room serves too
 record-more : (n : ℕ) (R : Room) (i : Whole ℕ) → n ≤ R .payload → 256 ≤ R .first → 256 ≤ R .second → T (recordOk (full n) i) → T (recordOk R i)
-unfolding recordOk
-record-more n R i p f s h =
-    let pf : T (leb (length (i .payload)) n && leb (length (i .first)) 256) = T-left (leb (length (i .payload)) n && leb (length (i .first)) 256) (leb (length (i .second)) 256) h in
-    let a : length (i .payload) ≤ n = leb→le (length (i .payload)) n (T-left (leb (length (i .payload)) n) (leb (length (i .first)) 256) pf) in
-    let b : length (i .first) ≤ 256 = leb→le (length (i .first)) 256 (T-right (leb (length (i .payload)) n) (leb (length (i .first)) 256) pf) in
-    let c : length (i .second) ≤ 256 = leb→le (length (i .second)) 256 (T-right (leb (length (i .payload)) n && leb (length (i .first)) 256) (leb (length (i .second)) 256) h) in
-    rw (le-leb (length (i .payload)) (R .payload) (omega arith), le-leb (length (i .first)) (R .first) (omega arith), le-leb (length (i .second)) (R .second) (omega arith)) tt
+record-more n R i p f s h = let k = record-fits (full n) i h in record-room R i (omega (arith, k .0)) (omega (arith, k .1)) (omega (arith, k .2))
 
 -- ---- one call
 
@@ -175,17 +168,6 @@ module _ (s : State) (w : Whole ℕ) (o : Beside) where
 over-length : (xs out : List ℕ) → length xs ≤ length out → length (over xs out) ≡ length out
 over-length xs out h = simp (length-append, length-drop) (omega arith)
 
-record-fits : (R : Room) (i : Whole ℕ) → T (recordOk R i) → (length (i .payload) ≤ R .payload) × (length (i .first) ≤ R .first) × (length (i .second) ≤ R .second)
-unfolding recordOk
-record-fits R i h =
-    let a = leb (length (i .payload)) (R .payload) in
-    let b = leb (length (i .first)) (R .first) in
-    let c = leb (length (i .second)) (R .second) in (
-      leb→le (length (i .payload)) (R .payload) (T-left a b (T-left (a && b) c h)),
-      leb→le (length (i .first)) (R .first) (T-right a b (T-left (a && b) c h)),
-      leb→le (length (i .second)) (R .second) (T-right (a && b) c h),
-    )
-
 kept : (s : State) (w : Whole ℕ) (o : Beside) (p : Paper Applied) → called s w o .answer ≡ p → SameLengths (lentAt s w o) (called s w o)
 unfolding applied leaves
 kept s w o (done a) e =
@@ -257,15 +239,14 @@ once-called s w o a e r =
     }
 
 pub accepted-once : AcceptedOnce
-unfolding recordOk
 accepted-once s w o a e p f g =
     let i : Whole ℕ = doing w (text s) .inverse in
     let q = tested s w o a e .answer in
     let lp : a .payload ≡ length (i .payload) = ap (λ (b : Applied). b .payload) q in
     let lf : a .first ≡ length (i .first) = ap (λ (b : Applied). b .first) q in
     let ls : a .second ≡ length (i .second) = ap (λ (b : Applied). b .second) q in
-    called-accepted s w (after a (called s w o)) (returned a (called s w o)) (once-called s w o a e
-    (rw (le-leb (length (i .payload)) (length (s .buffer)) (omega arith), le-leb (length (i .first)) 256 (omega arith), le-leb (length (i .second)) 256 (omega arith)) tt))
+    called-accepted s w (after a (called s w o)) (returned a (called s w o))
+    (once-called s w o a e (record-room (full (length (s .buffer))) i (omega arith) (omega arith) (omega arith)))
 
 abbrev pub exact : State → Beside
 exact s = record { cursor = at 0 0; changes = 0; payload = replicate (length (s .buffer)) 0; first = replicate 256 0; second = replicate 256 0 }

@@ -15,10 +15,11 @@ use Rattle.text.proofs.Laws.{clamp-end, offset-end, end-take}
 use Rattle.edit.specs.declared.MotionKind.the-variants.{Char}
 use Rattle.edit.specs.declared.Edit.the-variants.{InsertStr, DeleteRange, Replace}
 use Rattle.edit.specs.Edits.{Whole, whole, Edited, edited, inserted, cutFrom, cutTo, charsDeleted, lineFrom, lineTo, linesDeleted, replaced, rangeDeleted, editedBy}
-use Rattle.edit.specs.Refusals.{smallPosition, smallRange, smallOk, fewRows, fewOk, payloadOk, withinOk, roomOk, recordOk}
-use Rattle.edit.proofs.Tests.{T-both, all-append, all-take, all-drop}
-use Rattle.edit.proofs.Accepted.{doing, full, Ok, Fine, Step, Back, ok-room, ok-fits, ok-short, ok-admissible, ok-both}
-use Rattle.edit.proofs.Spots.{offset-le, clamp-place, offset-place, end-row, end-col, start-mono, end-upto, cut-parts}
+use Rattle.edit.specs.Refusals.{smallPosition, smallRange, smallOk, fewRows, fewOk, payloadOk, withinOk, roomOk}
+use Rattle.promise.proofs.Bools.{T-both}
+use Rattle.text.proofs.Alls.{all-append, all-take, all-drop}
+use Rattle.edit.proofs.Accepted.{doing, full, Ok, Fine, Step, Back, ok-room, ok-fits, ok-short, ok-admissible, ok-both, record-room}
+use Rattle.text.proofs.Spots.{offset-le, clamp-place, offset-place, end-row, end-col, start-mono, end-upto, cut-parts}
 
 -- ---- insert, delete and replace at the end of P, in P ++ (X ++ Q)
 
@@ -65,10 +66,6 @@ all-none = tt
 pub small-end : (s : List ℕ) → length s ≤ 16384 → T (smallPosition (end s))
 small-end s h = rw (le-leb (end s .row .0) 1_000_000 (omega (arith, end-row isLF s)), le-leb (end s .col .0) 1_000_000 (omega (arith, end-col isLF s))) tt
 
-record-payload : (n : ℕ) (i : Whole ℕ) → length (i .payload) ≤ n → length (i .first) ≤ 256 → length (i .second) ≤ 256 → T (recordOk (full n) i)
-unfolding recordOk
-record-payload n i p f s = rw (le-leb (length (i .payload)) n p, le-leb (length (i .first)) 256 f, le-leb (length (i .second)) 256 s) tt
-
 module _ (n : ℕ) (P X Q : List ℕ) (long : Ok n (P ++ (X ++ Q))) where
   lengths : length (P ++ (X ++ Q)) ≡ length P + (length X + length Q)
   lengths = simp length-append
@@ -100,7 +97,7 @@ module _ (n : ℕ) (P X Q : List ℕ) (long : Ok n (P ++ (X ++ Q))) where
         payloads = mid-admissible;
         withins = tt;
         rooms = rw (inserted-end P Q X) (ok-room n (P ++ (X ++ Q)) long);
-        records = rw (inserted-end P Q X) (record-payload n (whole (DeleteRange (end P) (end (P ++ X)) Char) [] [] []) (omega arith) (omega arith) (omega arith));
+        records = rw (inserted-end P Q X) (record-room (full n) (whole (DeleteRange (end P) (end (P ++ X)) Char) [] [] []) (omega arith) (omega arith) (omega arith));
       }) (inserted-end P Q X)
 
   step-delete : Ok n (P ++ Q) → Step n (P ++ (X ++ Q)) (whole (DeleteRange (end P) (end (P ++ X)) Char) [] [] []) (P ++ Q) (whole (InsertStr (end P)) X [] [])
@@ -113,7 +110,7 @@ module _ (n : ℕ) (P X Q : List ℕ) (long : Ok n (P ++ (X ++ Q))) where
         payloads = tt;
         withins = tt;
         rooms = rw (deleted-end P X Q) (ok-room n (P ++ Q) brief);
-        records = rw (deleted-end P X Q) (record-payload n (whole (InsertStr (end P)) X [] []) (omega (arith, len)) (omega arith) (omega arith));
+        records = rw (deleted-end P X Q) (record-room (full n) (whole (InsertStr (end P)) X [] []) (omega (arith, len)) (omega arith) (omega arith));
       }) (deleted-end P X Q)
 
   step-replace : (Y : List ℕ) → T (all admissible Y) → Ok n (P ++ (Y ++ Q))
@@ -127,7 +124,7 @@ module _ (n : ℕ) (P X Q : List ℕ) (long : Ok n (P ++ (X ++ Q))) where
         payloads = k;
         withins = tt;
         rooms = rw (replaced-end P X Q Y) (ok-room n (P ++ (Y ++ Q)) other);
-        records = rw (replaced-end P X Q Y) (record-payload n (whole (Replace (end P) (end (P ++ Y))) X [] []) (omega (arith, len)) (omega arith) (omega arith));
+        records = rw (replaced-end P X Q Y) (record-room (full n) (whole (Replace (end P) (end (P ++ Y))) X [] []) (omega (arith, len)) (omega arith) (omega arith));
       }) (replaced-end P X Q Y)
 
   back-insert-end : Ok n (P ++ Q) → Back n (P ++ Q) (P ++ (X ++ Q)) (whole (DeleteRange (end P) (end (P ++ X)) Char) [] [] [])

@@ -1,7 +1,7 @@
 -- Demand 3 for joins: a split at the recorded columns undoes a join, and the join it returns does it again.
 use mathlib.Core.Path.{_≡_, refl, sym, _∙_, ap, subst}
 use mathlib.Core.List.{List, [], _∷_, _++_, append-assoc}
-use mathlib.Core.Bool.{Bool, true, false, not, _&&_, _||_}
+use mathlib.Core.Bool.{Bool, true, false, not, _&&_, _||_, or-true}
 use Prim.Native.Nat.{ℕ, zero, suc, _+_, _-_, _≤_, _<_, min, max}
 use native.Mathlib.Nat.{min-eq-left}
 use native.Mathlib.Decide.{decLe}
@@ -18,9 +18,10 @@ use Rattle.utf8.specs.Rfc3629.{scalar}
 use Rattle.edit.specs.declared.Edit.the-variants.{JoinLines, SplitLines}
 use Rattle.edit.specs.Edits.{whole, Edited, edited, rowAt, gap, joinNext, joinRow, joinCols, joinFlags, joined, unspace, splitFirst, splitRow, anyFlag, split, editedBy}
 use Rattle.edit.specs.Refusals.{isSpace, spaces, small, smallOk, fewOk, payloadOk, withinFirst, withinAll, withinOk, roomOk, recordOk}
-use Rattle.edit.proofs.Tests.{T-both, all-append, all-left, all-right}
+use Rattle.promise.proofs.Bools.{T-both}
+use Rattle.text.proofs.Alls.{all-append, all-left, all-right}
 use Rattle.edit.proofs.Accepted.{full, Ok, Step, Back, ok-room, ok-short, ok-admissible, ok-both}
-use Rattle.edit.proofs.Ended.{notLF, Ended, final, ended, lines-ended, lines-unlines}
+use Rattle.text.proofs.Ended.{notLF, Ended, final, ended, lines-ended, lines-unlines}
 
 -- ---- one split of a row undoes one join
 
@@ -54,10 +55,6 @@ split-join b r (s ∷ ss) (next c h) =
     let g = gap 32 b c (s .body) ++ s .body in
     rw (split-join b (joinNext 32 b (line c (10 ∷ [])) s) ss (broken-join b (line c (10 ∷ [])) h), take-append-seam c g, drop-append-seam c g, unspace-gap b c (s .body))
 
-or-T : (a : Bool) → T (a || true)
-or-T true = tt
-or-T false = tt
-
 next-length : (b : Bool) (r s : List ℕ) → length (r ++ (gap 32 b r s ++ s)) ≡ length r + (length (gap 32 b r s) + length s)
 next-length b r s = rw (length-append r (gap 32 b r s ++ s), length-append (gap 32 b r s) s)
 
@@ -71,7 +68,7 @@ split-join-within b r (s ∷ ss) (next c h) =
     let l : leb (length c) (length (q .body)) ≡ true = le-leb (length c) (length (q .body)) (omega (arith, next-length b c (s .body))) in
     let k = broken-join b (line c (10 ∷ [])) h in
     T-both (withinFirst (length c) f (splitRow isLF isSpace spaces (joinRow 32 b q ss) (joinCols 32 b q ss) (joinFlags 32 b q ss)))
-    (withinAll (joinRow 32 b q ss) (joinCols 32 b q ss) (joinFlags 32 b q ss)) (rw (split-join b q ss k, l) (or-T (eqb f 0))) (split-join-within b q ss k)
+    (withinAll (joinRow 32 b q ss) (joinCols 32 b q ss) (joinFlags 32 b q ss)) (rw (split-join b q ss k, l, or-true (eqb f 0)) tt) (split-join-within b q ss k)
 
 -- ---- sizes
 

@@ -1,9 +1,6 @@
 pub mod Maps
 pub mod Natural
-pub mod Tests
 pub mod Accepted
-pub mod Ended
-pub mod Spots
 pub mod Flats
 pub mod Joins
 pub mod Blocks

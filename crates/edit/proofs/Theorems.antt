@@ -1,5 +1,5 @@
 -- The theorems of specs/Theorems.antt that are not proved beside their laws.
-use mathlib.Core.Path.{_≡_, refl, _∙_, ap, subst}
+use mathlib.Core.Path.{_≡_, refl, sym, _∙_, ap, subst}
 use mathlib.Core.Bool.{Bool, true, false, cond}
 use mathlib.Core.List.{List, [], _∷_}
 use Prim.Native.Nat.{ℕ, zero, suc, _+_, _≤_, _<_}
@@ -25,7 +25,7 @@ use Rattle.edit.specs.Edits.{corner, height}
 use Rattle.edit.specs.Refusals.{wide}
 use Rattle.edit.specs.Call.{paperAnswer, numberOf, offsetOf, firstOf, textOf, givenTests, rangeUndoable, isUndoable, undoable}
 use Rattle.edit.specs.Theorems.{Stands, RangeCondition, Condition, UndoableExactly, AnswerSettled}
-use Rattle.edit.proofs.Tests.{T-true, T-both, T-left, T-right}
+use Rattle.promise.proofs.Bools.{T-true, T-both, T-left, T-right}
 use Rattle.edit.proofs.Undo.{in-text}
 
 -- ---- undoable
@@ -83,38 +83,38 @@ conditions t (Replace p q) = (in-text t (earlier p q), stands-in t (earlier p q)
 conditions t (InsertBlock p) = (λ h. tt, λ h. tt)
 conditions t (DeleteBlockChunks p) = (λ h. h, λ h. h)
 
--- where tests let one answer through, they let every answer through
-through : (xs : List (Bool × Refusal)) (b : Bool) → firstOf xs (done b) ≡ done true → (firstOf xs (done true) ≡ done true) × T b
-unfolding firstOf
-through [] b e = let z : true ≡ b = cc in (refl, subst T z tt)
-through (x ∷ xs) b e = go (x .0) refl e (through xs b)
-  where
-    go : (c : Bool) → x .0 ≡ c → cond c (refused (numberOf (x .1)) (offsetOf (x .1))) (firstOf xs (done b)) ≡ done true → (firstOf xs (done b) ≡ done true → (firstOf xs (done true) ≡ done true) × T b)
-        → (cond (x .0) (refused (numberOf (x .1)) (offsetOf (x .1))) (firstOf xs (done true)) ≡ done true) × T b
-    go true q e k = let w : refused (numberOf (x .1)) (offsetOf (x .1)) ≡ done true = e in let z : true ≡ false = cc in absurd (subst T z tt)
-    go false q e k = rw q (k e)
+-- tests let every answer through, or refuse whatever it is
+data First (xs : List (Bool × Refusal)) : Type 0 where
+  lets : ((z : Paper Bool) → firstOf xs z ≡ z) → First xs
+  stops : (n k : ℕ) → ((z : Paper Bool) → firstOf xs z ≡ refused n k) → First xs
 
--- a refusal does not look at the answer
-refused-first : (xs : List (Bool × Refusal)) (b : Bool) (n k : ℕ) → firstOf xs (done true) ≡ refused n k → firstOf xs (done b) ≡ refused n k
+first : (xs : List (Bool × Refusal)) → First xs
 unfolding firstOf
-refused-first [] b n k e = let w : done true ≡ refused n k = e in let z : true ≡ false = cc in absurd (subst T z tt)
-refused-first (x ∷ xs) b n k e = go (x .0) e (refused-first xs b n k)
+first [] = lets (λ z. refl)
+first (x ∷ xs) = go (x .0) refl (first xs)
   where
-    go : (c : Bool) → cond c (refused (numberOf (x .1)) (offsetOf (x .1))) (firstOf xs (done true)) ≡ refused n k → (firstOf xs (done true) ≡ refused n k → firstOf xs (done b) ≡ refused n k)
-        → cond c (refused (numberOf (x .1)) (offsetOf (x .1))) (firstOf xs (done b)) ≡ refused n k
-    go true e k = e
-    go false e k = k e
+    go : (c : Bool) → x .0 ≡ c → First xs → First (x ∷ xs)
+    go true q f = stops (numberOf (x .1)) (offsetOf (x .1)) (λ z. rw q)
+    go false q (lets h) = lets (λ z. rw q (h z))
+    go false q (stops n k h) = stops n k (λ z. rw q (h z))
 
--- tests that let one answer through let the other through
-given-any : (xs : List (Bool × Refusal)) (b : Bool) → firstOf xs (done true) ≡ done true → firstOf xs (done b) ≡ done b
-unfolding firstOf
-given-any [] b e = refl
-given-any (x ∷ xs) b e = go (x .0) e (given-any xs b)
-  where
-    go : (c : Bool) → cond c (refused (numberOf (x .1)) (offsetOf (x .1))) (firstOf xs (done true)) ≡ done true → (firstOf xs (done true) ≡ done true → firstOf xs (done b) ≡ done b)
-        → cond c (refused (numberOf (x .1)) (offsetOf (x .1))) (firstOf xs (done b)) ≡ done b
-    go true e k = let w : refused (numberOf (x .1)) (offsetOf (x .1)) ≡ done true = e in let z : true ≡ false = cc in absurd (subst T z tt)
-    go false e k = k e
+not-both : {b : Bool} {n k : ℕ} → refused n k ≡ done b → ⊥
+not-both e = let z : true ≡ false = cc in subst T z tt
+
+through : (xs : List (Bool × Refusal)) (b : Bool) → First xs → firstOf xs (done b) ≡ done true → (firstOf xs (done true) ≡ done true) × T b
+through xs b (lets h) e =
+    let q : done b ≡ done true = sym (h (done b)) ∙ e in
+    let z : true ≡ b = cc in
+    (h (done true), subst T z tt)
+through xs b (stops n k h) e = absurd (not-both (sym (h (done b)) ∙ e))
+
+given-any : (xs : List (Bool × Refusal)) (b : Bool) → First xs → firstOf xs (done true) ≡ done true → firstOf xs (done b) ≡ done b
+given-any xs b (lets h) e = h (done b)
+given-any xs b (stops n k h) e = absurd (not-both (sym (h (done true)) ∙ e))
+
+refused-first : (xs : List (Bool × Refusal)) (b : Bool) (n k : ℕ) → First xs → firstOf xs (done true) ≡ refused n k → firstOf xs (done b) ≡ refused n k
+refused-first xs b n k (lets h) e = absurd (not-both (sym e ∙ h (done true)))
+refused-first xs b n k (stops m j h) e = h (done b) ∙ sym (h (done true)) ∙ e
 
 no-false : (b : Bool) → (T b → ⊥) → b ≡ false
 no-false true h = absurd (h tt)
@@ -125,12 +125,13 @@ unfolding undoable
 undoable-exactly v e l =
     let b = isUndoable (textOf v l) e in
     let c = conditions (textOf v l) e in
-    let any = given-any (givenTests v e l) b in
+    let f = first (givenTests v e l) in
+    let any = given-any (givenTests v e l) b f in
     record {
       yes = λ g h. any g ∙ ap {B = Paper Bool} (λ x. done x) (T-true b (c .1 h));
       no = λ g h. any g ∙ ap {B = Paper Bool} (λ x. done x) (no-false b (λ y. h (c .0 y)));
-      only-yes = λ h. let g = through (givenTests v e l) b h in (g .0, c .0 (g .1));
-      refuses = λ n k h. refused-first (givenTests v e l) b n k h;
+      only-yes = λ h. let g = through (givenTests v e l) b f h in (g .0, c .0 (g .1));
+      refuses = λ n k h. refused-first (givenTests v e l) b n k f h;
     }
 
 -- ---- answers

@@ -14,7 +14,7 @@ use Rattle.edit.specs.Edits.{Whole, whole, rangeDeleted, editedBy}
 use Rattle.edit.specs.Refusals.{fewOk, payloadOk}
 use Rattle.edit.specs.Call.{rangeUndoable, isUndoable}
 use Rattle.edit.specs.Runs.{Run, stop, step, edits, inverses, stages}
-use Rattle.edit.proofs.Tests.{T-left, T-right}
+use Rattle.promise.proofs.Bools.{T-left, T-right}
 use Rattle.edit.proofs.Accepted.{doing, Fine, Step, Back}
 use Rattle.edit.proofs.Flats.{back-insert, back-chars, back-lines, back-replace}
 use Rattle.edit.proofs.Joins.{back-join}

@@ -4,3 +4,6 @@ pub mod Boxes
 pub mod Texts
 pub mod Renewed
 pub mod Theorems
+pub mod Alls
+pub mod Ended
+pub mod Spots

@@ -5,9 +5,9 @@ use mathlib.Core.List.{List, [], _∷_, _++_, append-nil}
 use Prim.Native.Nat.{ℕ}
 use borrow.Author.Tests.{eqb-true}
 use lib.Dec.{T}
 use Rattle.text.specs.Rows.{Line, line, onto, lines, unlines}
 use Rattle.text.specs.Text.{isLF, all}
-use Rattle.edit.proofs.Tests.{T-left, T-right}
+use Rattle.promise.proofs.Bools.{T-left, T-right}
 
 abbrev pub notLF : ℕ → Bool
 notLF c = not (isLF c)

@@ -1,27 +1,11 @@
--- Tests joined by &&, and tests of every number of a list.
-use mathlib.Core.Path.{_≡_, refl}
-use mathlib.Core.Bool.{Bool, true, false, _&&_}
+-- Lists of numbers that all pass a test.
+use mathlib.Core.Bool.{Bool}
 use mathlib.Core.List.{List, [], _∷_, _++_}
 use Prim.Native.Nat.{ℕ}
 use lib.Dec.{T}
-use Rattle.text.specs.Text.{all}
 use lib.ListN.{take, drop, take-append-drop}
-
-pub T-true : (b : Bool) → T b → b ≡ true
-T-true true p = refl
-T-true false p = absurd p
-
-pub T-both : (a b : Bool) → T a → T b → T (a && b)
-T-both true b p q = q
-T-both false b p q = p
-
-pub T-left : (a b : Bool) → T (a && b) → T a
-T-left true b p = tt
-T-left false b p = p
-
-pub T-right : (a b : Bool) → T (a && b) → T b
-T-right true b p = p
-T-right false b p = absurd p
+use Rattle.promise.proofs.Bools.{T-both, T-left, T-right}
+use Rattle.text.specs.Text.{all}
 
 module _ (f : ℕ → Bool) where
   pub all-append : (xs ys : List ℕ) → T (all f xs) → T (all f ys) → T (all f (xs ++ ys))
