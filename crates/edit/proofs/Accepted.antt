@@ -7,9 +7,10 @@ use borrow.Author.Tests.{le-leb}
 use lib.Dec.{T, leb, leb→le}
 use lib.ListN.{length}
 use Rattle.text.specs.Text.{isLF, admissible, all}
+use Rattle.edit.specs.declared.Room.{Room}
 use Rattle.edit.specs.Edits.{Whole, Edited, editedBy}
 use Rattle.promise.proofs.Bools.{T-both, T-left, T-right}
-use Rattle.edit.specs.Refusals.{isSpace, spaces, short, smallOk, fewOk, payloadOk, withinOk, Room, roomOk, recordOk}
+use Rattle.edit.specs.Refusals.{isSpace, spaces, short, smallOk, fewOk, payloadOk, withinOk, roomOk, recordOk}
 
 -- ---- a text and an edit
 

@@ -14,9 +14,10 @@ use Rattle.text.specs.Text.{admissible, textOk, renewed, all}
 use Rattle.text.proofs.Renewed.{renewed-text, renewed-length}
 use Rattle.edit.specs.declared.View.{View}
 use Rattle.edit.specs.declared.Refusal.{Refusal}
+use Rattle.edit.specs.declared.Room.{Room}
 use Rattle.edit.specs.declared.Applied.{Applied}
 use Rattle.edit.specs.Edits.{Whole, whole, Edited}
-use Rattle.edit.specs.Refusals.{short, smallOk, fewOk, payloadOk, withinOk, Room, roomOk, recordOk}
+use Rattle.edit.specs.Refusals.{short, smallOk, fewOk, payloadOk, withinOk, roomOk, recordOk}
 use Rattle.edit.specs.Call.{numberOf, offsetOf, firstOf, Lent, Outcome, outcome, resultOf, roomOf, givenTests, resultTests, appliedAs, leaves, applied, isUndoable, undoable}
 use Rattle.edit.specs.Demand3.{State, text, Beside, viewAt, lentAt, called, after, returned, Accepted, AcceptedOnce}
 use Rattle.edit.specs.Theorems.{SameLengths, LengthsKept}
@@ -26,7 +27,7 @@ use Rattle.edit.proofs.Accepted.{doing, full, holds, Fine, Step, record
 -- ---- a list of tests
 
 -- what is not refused passed the first test, and then the others
-passed : {A : Type 0} (b : Bool) (r : Refusal) (xs : List (Bool × Refusal)) (z : Paper A) (a : A) → firstOf ((not b, r) ∷ xs) z ≡ done a → T b × (firstOf xs z ≡ done a)
+pub passed : {A : Type 0} (b : Bool) (r : Refusal) (xs : List (Bool × Refusal)) (z : Paper A) (a : A) → firstOf ((not b, r) ∷ xs) z ≡ done a → T b × (firstOf xs z ≡ done a)
 unfolding firstOf
 passed true r xs z a e = (tt, e)
 passed false r xs z a e =
@@ -86,7 +87,7 @@ module _ (s : State) (w : Whole ℕ) (o : Beside) where
   result-same = refl
 
   answered : s .used ≤ length (s .buffer) → Fine (length (s .buffer)) (text s) w → Recorded
-      → firstOf (givenTests (viewAt s o) (w .edit) l ++ resultTests (viewAt s o) (w .edit) l) (done (appliedAs (viewAt s o) (resultOf (viewAt s o) (w .edit) l))) ≡ done (appliedAs (viewAt s o) d)
+      → firstOf (givenTests (viewAt s o) (w .edit) l ++ resultTests (withinOk (text s) (w .edit) (w .first) (w .second)) (roomOf l) (resultOf (viewAt s o) (w .edit) l)) (done (appliedAs (viewAt s o) (resultOf (viewAt s o) (w .edit) l))) ≡ done (appliedAs (viewAt s o) d)
   unfolding resultOf firstOf
   answered h f r = rw (
     T-true (textOk (s .buffer) (s .used)) (subst T (text-holds (s .buffer) (s .used) h) (f .textual)),
@@ -119,10 +120,10 @@ module _ (s : State) (w : Whole ℕ) (o : Beside) where
       )
 
   first-answer : (p : Paper Applied) → called s w o .answer ≡ p
-      → firstOf (givenTests (viewAt s o) (w .edit) l ++ resultTests (viewAt s o) (w .edit) l) (done (appliedAs (viewAt s o) (resultOf (viewAt s o) (w .edit) l))) ≡ p
+      → firstOf (givenTests (viewAt s o) (w .edit) l ++ resultTests (withinOk (text s) (w .edit) (w .first) (w .second)) (roomOf l) (resultOf (viewAt s o) (w .edit) l)) (done (appliedAs (viewAt s o) (resultOf (viewAt s o) (w .edit) l))) ≡ p
   unfolding applied
   first-answer p e =
-      sym (leaves-answer (firstOf (givenTests (viewAt s o) (w .edit) l ++ resultTests (viewAt s o) (w .edit) l) (done (appliedAs (viewAt s o) (resultOf (viewAt s o) (w .edit) l)))) (viewAt s o) l (resultOf (viewAt s o) (w .edit) l)) ∙ e
+      sym (leaves-answer (firstOf (givenTests (viewAt s o) (w .edit) l ++ resultTests (withinOk (text s) (w .edit) (w .first) (w .second)) (roomOf l) (resultOf (viewAt s o) (w .edit) l)) (done (appliedAs (viewAt s o) (resultOf (viewAt s o) (w .edit) l)))) (viewAt s o) l (resultOf (viewAt s o) (w .edit) l)) ∙ e
 
   -- what an accepted call shows
   record Tested (a : Applied) : Type 0 where

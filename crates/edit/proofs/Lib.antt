@@ -9,3 +9,4 @@ pub mod Calls
 pub mod Demand3
 pub mod Theorems
 pub mod Examples
+pub mod Workers

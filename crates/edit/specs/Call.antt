@@ -15,11 +15,15 @@ use Rattle.edit.specs.declared.Edit.{Edit}
 use Rattle.edit.specs.declared.Edit.the-variants.{InsertChar, InsertStr, DeleteRange, JoinLines, SplitLines, Replace, InsertBlock, DeleteBlockChunks}
 use Rattle.edit.specs.declared.Refusal.{Refusal}
 use Rattle.edit.specs.declared.Refusal.the-variants.{BadText, TooBig, TooMany, BadPayload, BadUtf8, Reversed, BeyondRow, NoRoom, NoRecord, BadFrame}
+use Rattle.edit.specs.declared.Verdict.{Verdict}
+use Rattle.edit.specs.declared.Verdict.the-variants.{Fine, Bad}
+use Rattle.edit.specs.declared.Room.{Room}
+use Rattle.edit.specs.declared.Plan.{Plan}
 use Rattle.edit.specs.declared.Applied.{Applied}
 use Rattle.edit.specs.declared.Answer.{Answer}
 use Rattle.edit.specs.declared.Answer.the-variants.{Done, Refused}
 use Rattle.edit.specs.Edits.{Edited, editedBy, corner, height}
-use Rattle.edit.specs.Refusals.{isSpace, spaces, smallOk, fewOk, payloadOk, withinOk, Room, roomOk, recordOk, wide}
+use Rattle.edit.specs.Refusals.{isSpace, spaces, smallOk, fewOk, payloadOk, withinOk, roomOk, recordOk, wide}
 
 -- ---- document 01's table: number and offset of each refusal
 
@@ -52,12 +56,20 @@ abbrev pub paperAnswer : Answer → Paper Applied
 paperAnswer (Done a) = done a
 paperAnswer (Refused r) = refused (numberOf r) (offsetOf r)
 
+abbrev pub paperVerdict : Verdict → Paper (Unit {0})
+paperVerdict Fine = done tt
+paperVerdict (Bad r) = refused (numberOf r) (offsetOf r)
+
 -- ---- refusals in order
 
 -- "Each is given exactly when its row holds and no earlier one does": the first test that holds refuses
 unfoldable pub firstOf : {A : Type 0} → List (Bool × Refusal) → Paper A → Paper A
 firstOf [] a = a
 firstOf (x ∷ xs) a = cond (x .0) (refused (numberOf (x .1)) (offsetOf (x .1))) (firstOf xs a)
+
+-- the same where it is not known yet what is done if all pass
+abbrev pub verdictOf : List (Bool × Refusal) → Paper (Unit {0})
+verdictOf xs = firstOf xs (done tt)
 
 -- what is lent: the text's buffer, the edit's payload and lists, and the slices for the inverse's
 pub record Lent : Type 0 where
@@ -68,6 +80,9 @@ pub record Lent : Type 0 where
   pub outPayload : List ℕ
   pub outFirst : List ℕ
   pub outSecond : List ℕ
+
+abbrev pub lent : List ℕ → List ℕ → List ℕ → List ℕ → List ℕ → List ℕ → List ℕ → Lent
+lent b x f s ox of os = record { buffer = b; payload = x; first = f; second = s; outPayload = ox; outFirst = of; outSecond = os }
 
 abbrev pub roomOf : Lent → Room
 roomOf l = record { buffer = length (l .buffer); payload = length (l .outPayload); first = length (l .outFirst); second = length (l .outSecond) }
@@ -89,12 +104,8 @@ givenTests v e l =
     ∷ []
 
 -- rows 7 to 9, about what comes of it
-abbrev pub resultTests : View → Edit → Lent → List (Bool × Refusal)
-resultTests v e l =
-    (not (withinOk (textOf v l) e (l .first) (l .second)), BeyondRow)
-    ∷ (not (roomOk (roomOf l) (resultOf v e l .text)), NoRoom)
-    ∷ (not (recordOk (roomOf l) (resultOf v e l .inverse)), NoRecord)
-    ∷ []
+abbrev pub resultTests : Bool → Room → Edited ℕ → List (Bool × Refusal)
+resultTests within R d = (not within, BeyondRow) ∷ (not (roomOk R (d .text)), NoRoom) ∷ (not (recordOk R (d .inverse)), NoRecord) ∷ []
 
 -- ---- the call
 
@@ -113,6 +124,10 @@ outcome a t p f s = record { answer = a; text = t; payload = p; first = f; secon
 abbrev pub nextView : View → Edited ℕ → View
 nextView v d = record { used = length (d .text); cursor = d .cursor; changes = (v .changes + 1) % 2 ^ 64 }
 
+-- the sizes that rows 8 and 9 are about, which a worker finds before it stores anything
+abbrev pub planOf : Edited ℕ → Plan
+planOf d = record { used = length (d .text); payload = length (d .inverse .payload); first = length (d .inverse .first); second = length (d .inverse .second) }
+
 abbrev pub appliedAs : View → Edited ℕ → Applied
 appliedAs v d =
     record { view = nextView v d; inverse = d .inverse .edit; payload = length (d .inverse .payload); first = length (d .inverse .first); second = length (d .inverse .second) }
@@ -124,8 +139,15 @@ leaves (done a) v l d =
     outcome (done a) (renewed (l .buffer) (v .used) (d .text)) (over (d .inverse .payload) (l .outPayload)) (over (d .inverse .first) (l .outFirst))
     (over (d .inverse .second) (l .outSecond))
 
+-- what is left of a call that rows 1 to 4 do not refuse, for an edit that makes d of the text
+unfoldable pub finished : Bool → View → Lent → Edited ℕ → Outcome
+finished within v l d = leaves (firstOf (resultTests within (roomOf l) d) (done (appliedAs v d))) v l d
+
+-- the whole call: "in order of checking"
 unfoldable pub applied : View → Edit → Lent → Outcome
-applied v e l = leaves (firstOf (givenTests v e l ++ resultTests v e l) (done (appliedAs v (resultOf v e l)))) v l (resultOf v e l)
+applied v e l =
+    let d = resultOf v e l in
+    leaves (firstOf (givenTests v e l ++ resultTests (withinOk (textOf v l) e (l .first) (l .second)) (roomOf l) d) (done (appliedAs v d))) v l d
 
 -- ---- undoable
 

@@ -11,6 +11,7 @@ use Rattle.edit.specs.declared.MotionKind.{MotionKind}
 use Rattle.edit.specs.declared.MotionKind.the-variants.{Char, Line as Lines, Block}
 use Rattle.edit.specs.declared.Edit.{Edit}
 use Rattle.edit.specs.declared.Edit.the-variants.{InsertChar, InsertStr, DeleteRange, JoinLines, SplitLines, Replace, InsertBlock, DeleteBlockChunks}
+use Rattle.edit.specs.declared.Room.{Room}
 use Rattle.edit.specs.Edits.{Whole, Made, splitRow, height}
 
 -- ---- characters
@@ -108,13 +109,6 @@ withinOk t (InsertBlock p) f s = true
 withinOk t (DeleteBlockChunks p) f s = true
 
 -- ---- 8 NoRoom: "resulting text longer than its buffer or 16,384"; 9 NoRecord: "inverse longer than its lent slices"
-
--- how long the lent slices are: the text's buffer, the inverse's payload and its two lists
-pub record Room : Type 0 where
-  pub buffer : ℕ
-  pub payload : ℕ
-  pub first : ℕ
-  pub second : ℕ
 
 unfoldable pub roomOk : Room → List ℕ → Bool
 roomOk R u = leb (length u) (R .buffer) && short u

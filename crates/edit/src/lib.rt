@@ -65,6 +65,28 @@ pub enum Refusal {
     BadFrame,
 }
 
+// Nothing is refused, or what is.
+pub enum Verdict {
+    Fine,
+    Bad(Refusal),
+}
+
+// How long the lent slices are: the text's buffer, and the slices for the inverse's payload and its two lists.
+pub struct Room {
+    pub buffer: usize,
+    pub payload: usize,
+    pub first: usize,
+    pub second: usize,
+}
+
+// How long the text will be, and the inverse's payload and lists.
+pub struct Plan {
+    pub used: usize,
+    pub payload: usize,
+    pub first: usize,
+    pub second: usize,
+}
+
 // The view after an edit, the inverse, and how much of the inverse's slices was written.
 pub struct Applied {
     pub view: View,
