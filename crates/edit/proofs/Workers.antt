@@ -1,6 +1,6 @@
 -- The call in two halves, as code goes about it: rows 1 to 4 are judged first, and a worker does the rest.
-use mathlib.Core.Path.{_≡_, refl, sym, _∙_, ap}
-use mathlib.Core.Bool.{Bool, true, false, not, _&&_}
+use mathlib.Core.Path.{_≡_, refl, sym}
+use mathlib.Core.Bool.{Bool, true, false}
 use mathlib.Core.List.{List, [], _∷_, _++_}
 use Prim.Native.Nat.{ℕ, _≤_}
 use lib.Dec.{T, leb, leb→le}
@@ -14,7 +14,7 @@ use Rattle.edit.specs.declared.Refusal.{Refusal}
 use Rattle.edit.specs.declared.Room.{Room}
 use Rattle.edit.specs.Edits.{Edited}
 use Rattle.edit.specs.Refusals.{short, smallOk, fewOk, payloadOk, withinOk, roomOk, recordOk}
-use Rattle.edit.specs.Call.{numberOf, offsetOf, firstOf, verdictOf, Lent, Outcome, outcome, textOf, resultOf, roomOf, givenTests, resultTests, appliedAs, leaves, finished, applied}
+use Rattle.edit.specs.Call.{numberOf, offsetOf, firstOf, verdictOf, Lent, outcome, textOf, resultOf, roomOf, givenTests, resultTests, appliedAs, leaves, finished, applied}
 use Rattle.edit.proofs.Accepted.{record-fits}
 use Rattle.edit.proofs.Calls.{passed}
 

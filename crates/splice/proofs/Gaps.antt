@@ -1,15 +1,15 @@
 -- A gap opened and closed, from the moves that do it.
-use mathlib.Core.Path.{_≡_, ap₂, _∙_, subst}
+use mathlib.Core.Path.{_≡_, sym, ap, ap₂, _∙_, subst}
 use mathlib.Core.List.{List, [], _++_, append-assoc, append-nil}
 use Prim.Native.Nat.{ℕ, _+_, _-_, _≤_, max}
 use native.Mathlib.Nat.{zero-add}
 use native.Mathlib.Omega.{arith}
 use lib.ListN.{length, take, drop, replicate, length-append, length-take, length-drop, length-replicate, drop-of-length-le}
-use lib.Seq.{take-all, take-at, drop-at, take-length, take-take, drop-drop, drop-append-add, paste, length-take-le}
+use lib.Seq.{take-all, take-at, drop-at, take-length, take-take, drop-drop, drop-append-add, paste, length-paste, length-take-le}
 use Rattle.promise.proofs.Lists.{drop-take}
 use Rattle.text.specs.Rows.{spliced}
 use Rattle.text.specs.Text.{renewed}
-use Rattle.splice.specs.Splice.{gapOpened, Gap, gap, gapClosed}
+use Rattle.splice.specs.Splice.{gapOpened, Gap, gap, gapRemoved, gapClosed}
 
 -- what a lender holds after its part from index a on has come back as y
 tail-whole : (b : List ℕ) (a : ℕ) → take (length b - a) (drop a b) ≡ drop a b
@@ -19,6 +19,19 @@ tail-back : (b y : List ℕ) (a : ℕ) → take a b ++ (y ++ drop (length b - a)
 tail-back b y a =
     let l : length (drop a b) ≤ length b - a = simp length-drop (omega arith) in
     rw (drop-of-length-le (drop a b) l, append-nil)
+
+-- two pastes, one behind the other
+pub paste-both : (d x y : List ℕ) (at n : ℕ) → n ≡ length x → at + (n + length y) ≤ length d
+    → paste (paste d at x n) (at + n) y (length y) ≡ paste d at (x ++ y) (length (x ++ y))
+paste-both d x y at n e h =
+    let la : length (take at d ++ x) ≡ at + n = simp (length-append, length-take) (omega arith) in
+    let ly : length (x ++ y) ≡ n + length y = simp length-append (omega arith) in
+    let tx : take n x ≡ x = take-all n x (omega arith) in
+    let dd : drop (at + n + length y) ((take at d ++ x) ++ drop (at + n) d) ≡ drop (at + (n + length y)) d =
+    let e₁ : at + n + length y ≡ length (take at d ++ x) + length y = omega arith in
+    let e₂ : at + n + length y ≡ at + (n + length y) = omega arith in
+    rw (e₁, drop-append-add (take at d ++ x) (drop (at + n) d) (length y), drop-drop, e₂) in
+    rw (tx, take-at (take at d ++ x) _ (at + n) la, take-length, dd, ly, ← ly, take-length, ly) (simp append-assoc)
 
 -- the tail y after its move up, and the buffer t after the payload went in
 module _ (b y t : List ℕ) (used at : ℕ) (p : List ℕ) where
@@ -53,6 +66,23 @@ module _ (b y t : List ℕ) (used at : ℕ) (p : List ℕ) (h : at ≤ used) (ro
   pub gap-opened : MovedUp b y t used at p → Filled b y t used at p → t ≡ gapOpened b used at p
   gap-opened ey et = opened ey et ∙ open-renewed
 
+-- the buffer f after the spaces went in, and t after the payload
+pub gap-padded : (b y f t : List ℕ) (used at pad : ℕ) (p : List ℕ) → at ≤ used → used + (pad + length p) ≤ length b
+    → y ≡ paste (take (length b - at) (drop at b)) (pad + length p) (take (length b - at) (drop at b)) (used - at)
+    → f ≡ paste (take at b ++ (y ++ drop (length b - at) (drop at b))) at (replicate pad 32) pad
+    → t ≡ paste f (at + pad) p (length p)
+    → t ≡ gapOpened b used at (replicate pad 32 ++ p)
+gap-padded b y f t used at pad p h room ey ef et =
+    let q : List ℕ = replicate pad 32 ++ p in
+    let D : List ℕ = take (length b - at) (drop at b) in
+    let W : List ℕ = take at b ++ (y ++ drop (length b - at) (drop at b)) in
+    let lr : pad ≡ length (replicate {A = ℕ} pad 32) = sym (length-replicate {A = ℕ} pad 32) in
+    let lq : length q ≡ pad + length p = simp (length-append, length-replicate) in
+    let ld : length D ≡ length b - at = simp (length-take, length-drop) (omega arith) in
+    let ly : length y ≡ length b - at = ap length ey ∙ length-paste D (pad + length p) D (used - at) (omega arith) (omega arith) ∙ ld in
+    let lw : at + (pad + length p) ≤ length W = simp (length-append, length-take, length-drop) (omega arith) in
+    gap-opened b y t used at q h (omega arith) (rw lq ey) (et ∙ ap (λ (z : List ℕ). paste z (at + pad) p (length p)) ef ∙ paste-both W (replicate pad 32) p at pad lr lw)
+
 -- the tail y after its move down, and the buffer t after the places behind it were cleared
 module _ (b y t : List ℕ) (used a e : ℕ) where
   abbrev pub MovedDown : Type 0
@@ -83,8 +113,9 @@ module _ (b y t : List ℕ) (used a e : ℕ) (h : a ≤ e) (k : e ≤ used) (roo
       let m : max used (a + (used - e)) ≡ used = omega arith in
       rw (drop-take e used b, take-take a used b (omega arith), l, z, m) (simp append-assoc)
 
-  pub gap-closed : (out c : List ℕ) → c ≡ paste out 0 (take (e - a) (drop a b)) (length (take (e - a) (drop a b)))
-      → MovedDown b y t used a e → Cleared b y t used a e
-      → gap t c ≡ gapClosed b used a e out
-  gap-closed out c ec ey et =
-      ap₂ {C = Gap} gap (closed ey et ∙ close-renewed) (ec ∙ rw (take-length, zero-add, drop-take a e b))
+  pub gap-removed : MovedDown b y t used a e → Cleared b y t used a e → t ≡ gapRemoved b used a e
+  gap-removed ey et = closed ey et ∙ close-renewed
+
+pub gap-closed : (b t : List ℕ) (used a e : ℕ) (out c : List ℕ) → c ≡ paste out 0 (take (e - a) (drop a b)) (length (take (e - a) (drop a b))) → t ≡ gapRemoved b used a e
+    → gap t c ≡ gapClosed b used a e out
+gap-closed b t used a e out c ec et = ap₂ {C = Gap} gap et (ec ∙ rw (take-length, zero-add, drop-take a e b))

@@ -55,8 +55,8 @@ pub paste-step : (d : List ℕ) (at : ℕ) (s : List ℕ) (j : ℕ) (t : List �
     → set t (at + j) (getD s j 0) ≡ paste d at s (j + 1)
 paste-step d at s j t e hd hs = rw (e, add-one) (paste-suc d at s j 0 hd hs)
 
--- so many zeros from index at on
-pub zero-step : (b : List ℕ) (at n j : ℕ) (t : List ℕ) → t ≡ paste b at (replicate n 0) j → at + j < length b → j < n → set t (at + j) 0 ≡ paste b at (replicate n 0) (j + 1)
-zero-step b at n j t e h k =
-    let l : j < length (replicate {A = ℕ} n 0) = rw (length-replicate {A = ℕ} n 0) k in
-    ap (set t (at + j)) (sym (getD-replicate {A = ℕ} n j 0 0 k)) ∙ paste-step b at (replicate n 0) j t e h l
+-- so many of one value from index at on
+pub fill-step : (b : List ℕ) (at n x j : ℕ) (t : List ℕ) → t ≡ paste b at (replicate n x) j → at + j < length b → j < n → set t (at + j) x ≡ paste b at (replicate n x) (j + 1)
+fill-step b at n x j t e h k =
+    let l : j < length (replicate {A = ℕ} n x) = rw (length-replicate {A = ℕ} n x) k in
+    ap (set t (at + j)) (sym (getD-replicate {A = ℕ} n j x 0 k)) ∙ paste-step b at (replicate n x) j t e h l

@@ -7,3 +7,4 @@ pub mod Theorems
 pub mod Alls
 pub mod Ended
 pub mod Spots
+pub mod Walks

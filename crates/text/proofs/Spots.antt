@@ -19,7 +19,7 @@ upto-added a b (suc r) c = let h : a < a + suc r = omega arith in rw (ne-eqb (su
 
 module _ {A : Type 0} (lf : A → Bool) where
   -- a row ends in the text
-  row-within : (t : List A) (r : ℕ) → rowStart lf t r + rowLen lf t r ≤ length t
+  pub row-within : (t : List A) (r : ℕ) → rowStart lf t r + rowLen lf t r ≤ length t
   row-within t zero = rw (start-first lf t) (omega (arith, len-le lf t 0))
   row-within [] (suc r) = rw (start-none lf, len-none lf (suc r)) (omega arith)
   row-within (x ∷ t) (suc r) = go (lf x) refl (row-within t r) (row-within t (suc r))

@@ -1,20 +1,18 @@
 -- The test of a text, calls that refuse by it alone, and places put together from their parts.
-use mathlib.Core.Path.{_≡_, sym, ap, ap₂, _∙_}
+use mathlib.Core.Path.{_≡_, sym, _∙_}
 use mathlib.Core.Bool.{Bool, true, false, not, _&&_}
 use mathlib.Core.List.{List}
-use Prim.Native.Nat.{ℕ, _+_, _-_, _≤_, _<_, min}
+use Prim.Native.Nat.{ℕ, _-_, _≤_, _<_}
 use native.Mathlib.Nat.{sub-zero}
-use native.Mathlib.Omega.{arith}
 use borrow.Author.Tests.{le-leb, lt-leb, leb-true, not-true, not-false}
 use lib.Dec.{leb, eqb}
 use lib.ListN.{length, take, drop}
 use Rattle.promise.specs.Paper.{Paper, done, refused}
 use Rattle.promise.proofs.Bools.{both}
 use Rattle.text.specs.declared.Position.{Position}
-use Rattle.text.specs.Rows.{lastRow, rowLen, rowStart, clamp, offset, inText, at}
+use Rattle.text.specs.Rows.{clamp, inText}
 use Rattle.text.specs.Text.{isLF, allAdmissible, textOk}
 use Rattle.text.specs.Calls.{onText}
-use Rattle.text.proofs.Laws.{len-le}
 
 -- the used part, as it is lent
 pub front : (b : List ℕ) (used : ℕ) → take (used - 0) (drop 0 b) ≡ take used b
@@ -51,20 +49,7 @@ module _ (b : List ℕ) (used : ℕ) where
     pub done-text : {A : Type 0} (f : List ℕ → A) (p : Paper A) → not r ≡ false → p ≡ done (f (take (used - 0) (drop 0 b))) → p ≡ onText f b used
     done-text f p n g = rw (← e, not-false r n, ← front b used) g
 
--- A position that is put together from its clamped row and column.
-pub clamp-made : (t : List ℕ) (p q : Position) → q .row .0 ≡ min (p .row .0) (lastRow isLF t) → q .col .0 ≡ min (p .col .0) (rowLen isLF t (q .row .0)) → q ≡ clamp isLF t p
-unfolding clamp
-clamp-made t p q e f = ap₂ {C = Position} (λ r c. at r c) e (f ∙ ap (λ (n : ℕ). min (p .col .0) (rowLen isLF t n)) e)
-
-module _ (t : List ℕ) (p q : Position) (e : q ≡ clamp isLF t p) where
-  pub offset-made : (n : ℕ) → n ≡ rowStart isLF t (q .row .0) → n + q .col .0 ≡ offset isLF t p
-  unfolding offset
-  offset-made n f = rw (f, e)
-
-  pub in-text-made : (eqb (q .row .0) (p .row .0) && eqb (q .col .0) (p .col .0)) ≡ inText isLF t p
-  unfolding inText
-  in-text-made = rw e
-
-  pub col-le : q .col .0 ≤ length t
-  unfolding clamp
-  col-le = rw e (omega (arith, len-le isLF t (min (p .row .0) (lastRow isLF t))))
+-- whether a position is in the text, from its clamped one
+pub in-text-made : (t : List ℕ) (p q : Position) → q ≡ clamp isLF t p → (eqb (q .row .0) (p .row .0) && eqb (q .col .0) (p .col .0)) ≡ inText isLF t p
+unfolding inText
+in-text-made t p q e = rw e

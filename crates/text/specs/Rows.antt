@@ -4,7 +4,10 @@ use mathlib.Core.List.{List, [], _∷_, _++_}
 use Prim.Native.Nat.{ℕ, _+_, _-_, min}
 use lib.Dec.{eqb, leb, ltb}
 use lib.ListN.{length, take, drop, getD}
+use Rattle.text.specs.declared.CharOffset.{CharOffset}
 use Rattle.text.specs.declared.Position.{Position}
+use Rattle.text.specs.declared.Span.{Span}
+use Rattle.text.specs.declared.Place.{Place}
 
 -- a row: what stands in it, and what ends it: its LF, or nothing
 pub record Line (A : Type 0) : Type 0 where
@@ -29,6 +32,9 @@ module _ {A : Type 0} where
   unfoldable pub unlines : List (Line A) → List A
   unlines [] = []
   unlines (r ∷ rs) = r .body ++ (r .after ++ unlines rs)
+
+abbrev pub charAt : ℕ → CharOffset
+charAt n = record { 0 = n }
 
 abbrev pub at : ℕ → ℕ → Position
 at r c = record { row = record { 0 = r }; col = record { 0 = c } }
@@ -64,6 +70,12 @@ module _ {A : Type 0} (lf : A → Bool) where
   unfoldable pub rowStart : List A → ℕ → ℕ
   rowStart t r = length (unlines (take r (lines lf t)))
 
+  -- the row of this number, or the last: where it starts, and where it ends
+  unfoldable pub span : List A → ℕ → Span
+  span t n =
+      let r = min n (lastRow t) in
+      record { row = record { 0 = r }; start = charAt (rowStart t r); end = charAt (rowStart t r + rowLen t r) }
+
   -- "To clamp: row to the last row, then column to that row's length"
   unfoldable pub clamp : List A → Position → Position
   clamp t p = let r = min (p .row .0) (lastRow t) in at r (min (p .col .0) (rowLen t r))
@@ -71,6 +83,9 @@ module _ {A : Type 0} (lf : A → Bool) where
   -- how many elements stand before a position, clamped
   unfoldable pub offset : List A → Position → ℕ
   offset t p = rowStart t (clamp t p .row .0) + clamp t p .col .0
+
+  abbrev pub place : List A → Position → Place
+  place t p = record { pos = clamp t p; at = charAt (offset t p) }
 
   -- the position where a text ends; the element at index i stands at the end of the first i
   unfoldable pub endOf : List A → Position

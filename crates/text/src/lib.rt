@@ -11,9 +11,11 @@ pub use rows::LF;
 pub use rows::clamp;
 pub use rows::clamp_position;
 pub use rows::contains;
+pub use rows::find_row;
 pub use rows::last_row;
 pub use rows::line_char_count;
 pub use rows::line_to_char;
+pub use rows::locate;
 pub use rows::pos_to_char_idx;
 pub use rows::row_count;
 ghost use mathlib.Core.Path.{_≡_};
@@ -30,6 +32,19 @@ pub struct CharOffset(pub usize);
 pub struct Position {
     pub row: Row,
     pub col: Col,
+}
+
+// A row that a text has: its number, where it starts, and where it ends, at its LF or at the end of the text.
+pub struct Span {
+    pub row: Row,
+    pub start: CharOffset,
+    pub end: CharOffset,
+}
+
+// A place in a text, by its two names.
+pub struct Place {
+    pub pos: Position,
+    pub at: CharOffset,
 }
 
 // A position in the text, or the refusal.

@@ -2,13 +2,15 @@
 use crate::CharOffset;
 use crate::Clamped;
 use crate::Col;
+use crate::Place;
 use crate::Position;
 use crate::Row;
+use crate::Span;
 use crate::admit::is_text;
 ghost use mathlib.Core.Path.{_≡_};
 ghost use Prim.Native.Nat.{_≤_};
 ghost use lib.ListN.{length, drop};
-ghost use Rattle.text.specs.Rows.{rowCount, lastRow, rowLen, rowStart, clamp, offset, inText};
+ghost use Rattle.text.specs.Rows.{rowCount, lastRow, rowLen, rowStart, span, clamp, offset, place, inText};
 ghost use Rattle.text.specs.Text.{isLF, textLimit};
 ghost use Rattle.text.specs.Answers.{paperClamped};
 ghost use Rattle.text.specs.Calls.{clampedIn};
@@ -80,15 +82,58 @@ pub fn line_char_count(text: &[u32], row: Row) -> Col
     Col(run_len(text, start) as u32)
 }
 
+// The row of this number, or the last, found in one scan.
+pub fn find_row(text: &[u32], row: Row) -> Span
+    requires { ⌜ length (now text) ≤ textLimit ⌝ }
+    ensures { λ r. ⌜ r ≡ span isLF (now (text .entry)) (row .0) ⌝ }
+{
+    let want = row.0;
+    let mut above = 0;
+    let mut start = 0;
+    let mut i = 0;
+    while i < text.len() {
+        if text[i] == LF {
+            if above == want {
+                return Span {
+                    row: Row(above),
+                    start: CharOffset(start),
+                    end: CharOffset(i),
+                };
+            }
+            above += 1;
+            start = i + 1;
+        }
+        i += 1;
+    }
+    Span {
+        row: Row(above),
+        start: CharOffset(start),
+        end: CharOffset(i),
+    }
+}
+
+// The position, clamped, and its offset.
+pub fn locate(text: &[u32], pos: Position) -> Place
+    requires { ⌜ length (now text) ≤ textLimit ⌝ }
+    ensures { λ r. ⌜ r ≡ place isLF (now (text .entry)) pos ⌝ }
+{
+    let found = find_row(text, pos.row);
+    let row = found.row;
+    let start = found.start.0;
+    let col = pos.col.min(Col((found.end.0 - start) as u32));
+    Place {
+        pos: Position { row, col },
+        at: CharOffset(start + col.0 as usize),
+    }
+}
+
 // The position in an admitted text, clamped.
 pub fn clamp(text: &[u32], pos: Position) -> Position
     requires { ⌜ length (now text) ≤ textLimit ⌝ }
     ensures { λ r. ⌜ r ≡ clamp isLF (now (text .entry)) pos ⌝ }
 {
-    let row = pos.row.min(last_row(text));
-    let end = line_char_count(text, row);
-    let col = pos.col.min(end);
-    Position { row, col }
+    let found = locate(text, pos);
+    found.pos
 }
 
 // The offset of a position, clamped.
@@ -96,9 +141,8 @@ pub fn pos_to_char_idx(text: &[u32], pos: Position) -> CharOffset
     requires { ⌜ length (now text) ≤ textLimit ⌝ }
     ensures { λ r. ⌜ r .0 ≡ offset isLF (now (text .entry)) pos ⌝ }
 {
-    let inside = clamp(text, pos);
-    let start = line_to_char(text, inside.row);
-    CharOffset(start.0 + inside.col.0 as usize)
+    let found = locate(text, pos);
+    found.at
 }
 
 // Whether clamping leaves the position as it is.

@@ -1,7 +1,11 @@
-use borrow.Author.Needs.{needs}
 use Rattle.splice.proofs.Gaps.{gap-closed}
+use borrow.Author.Needs.{needs}
 use Rattle.splice.proofs.close_gap.Statement.{statement}
 use Rattle.splice.proofs.close_gap.Tie as tie
+use Rattle.splice.proofs.close_gap.Reads as reads
+use Rattle.splice.proofs.close_gap.Lts as lts
+use Rattle.splice.proofs.copy_in.Reads as copy-in-reads
+use Rattle.splice.proofs.remove.Reads as remove-reads
 
 mul-copy-in : tie.Need-mul-copy-in
 mul-copy-in c = search needs
@@ -18,38 +22,8 @@ part-copy-in-end c = search needs
 copy-in-requires : tie.Need-copy-in-requires
 copy-in-requires c κs = search needs
 
-mul-shift-down : tie.Need-mul-shift-down
-mul-shift-down c = search needs
-
-sub-shift-down : tie.Need-sub-shift-down
-sub-shift-down c = search needs
-
-part-shift-down-start : tie.Need-part-shift-down-start
-part-shift-down-start c = search needs
-
-part-shift-down-end : tie.Need-part-shift-down-end
-part-shift-down-end c = search needs
-
-sub-shift-down-2 : tie.Need-sub-shift-down-2
-sub-shift-down-2 c = search needs
-
-sub-shift-down-3 : tie.Need-sub-shift-down-3
-sub-shift-down-3 c = search needs
-
-shift-down-requires : tie.Need-shift-down-requires
-shift-down-requires c κs = search needs
-
-sub-t21 : tie.Need-sub-t21
-sub-t21 c = search needs
-
-add-t20 : tie.Need-add-t20
-add-t20 c = search needs
-
-sub-clear : tie.Need-sub-clear
-sub-clear c = search needs
-
-clear-requires : tie.Need-clear-requires
-clear-requires c κs = search needs
+remove-requires : tie.Need-remove-requires
+remove-requires c κs = search needs
 
 same-length : tie.Need-same-length
 same-length c = search needs
@@ -58,8 +32,8 @@ same-length-2 : tie.Need-same-length-2
 same-length-2 c = search needs
 
 returns : tie.Need-returns
-returns c = let s = c .before .before .before .before .before .before .before .before .before .before .before .before .before .before .before .before in let a = s .args in
-    gap-closed (a .text .now) _ _ (a .used) (a .start .0) (a .end .0) (s .pre .0) (s .pre .1) (s .pre .2) (a .cut .now) _ (c .before .before .before .before .before .before .before .before .before .before .copy-in .ensures) (c .before .before .before .before .before .before .shift-down .ensures) (c .before .before .clear .ensures)
+returns c = let s = c .before .before .before .before .before .before .before .before .before .before .before .before in let a = s .args in
+    gap-closed (a .text .now) _ (a .used) (a .start .0) (a .end .0) (a .cut .now) _ (c .before .before .before .before .before .before .copy-in .ensures) (c .before .before .remove .ensures)
 
 pub close-gap-spec : {M : Type 1} → statement M
 close-gap-spec =
@@ -70,17 +44,7 @@ close-gap-spec =
     part-copy-in-start
     part-copy-in-end
     copy-in-requires
-    mul-shift-down
-    sub-shift-down
-    part-shift-down-start
-    part-shift-down-end
-    sub-shift-down-2
-    sub-shift-down-3
-    shift-down-requires
-    sub-t21
-    add-t20
-    sub-clear
-    clear-requires
+    remove-requires
     same-length
     same-length-2
     returns)

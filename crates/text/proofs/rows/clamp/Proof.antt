@@ -1,26 +1,17 @@
-use mathlib.Core.Path.{_∙_}
+use mathlib.Core.Path.{ap}
+use Rattle.text.specs.declared.Place.{Place}
 use borrow.Author.Needs.{needs}
-use Rattle.text.proofs.Texts.{clamp-made}
 use Rattle.text.proofs.rows.clamp.Statement.{statement}
 use Rattle.text.proofs.rows.clamp.Tie as tie
+use Rattle.text.proofs.rows.clamp.Reads as reads
+use Rattle.text.proofs.rows.clamp.Lts as lts
+use Rattle.text.proofs.rows.locate.Reads as locate-reads
 
-last-row-requires : tie.Need-last-row-requires
-last-row-requires c κs = search needs
-
-min-requires : tie.Need-min-requires
-min-requires c κs = search needs
-
-line-char-count-requires : tie.Need-line-char-count-requires
-line-char-count-requires c κs = search needs
-
-min-requires-2 : tie.Need-min-requires-2
-min-requires-2 c κs = search needs
+locate-requires : tie.Need-locate-requires
+locate-requires c κs = search needs
 
 returns : tie.Need-returns
-returns c = let a = c .before .before .before .before .before .args in
-    clamp-made (a .text .now) (a .pos) _ (c .before .before .min .ensures ∙ rw (c .before .before .before .last-row .ensures)) (c .min2 .ensures ∙ rw (c .before .line-char-count .ensures))
+returns c = ap (λ (p : Place). p .pos) (c .before .locate .ensures)
 
 pub clamp-spec : {M : Type 1} → statement M
-clamp-spec =
-    tie.close
-    (tie.spec last-row-requires min-requires line-char-count-requires min-requires-2 returns)
+clamp-spec = tie.close (tie.spec locate-requires returns)

@@ -4,18 +4,18 @@ use native.Mathlib.Omega.{arith}
 use borrow.Author.Needs.{needs}
 use lib.ListN.{length, length-set, replicate}
 use lib.Seq.{paste, paste-zero}
-use Rattle.splice.proofs.Moves.{zero-step}
-use Rattle.splice.proofs.clear.Statement.{statement}
-use Rattle.splice.proofs.clear.Tie as tie
+use Rattle.splice.proofs.Moves.{fill-step}
+use Rattle.splice.proofs.fill.Statement.{statement}
+use Rattle.splice.proofs.fill.Tie as tie
 
 abbrev Inv-loop : tie.InvT-loop
-Inv-loop text₀ count start i₀ text i = (i ≤ count) × (length text ≡ length text₀) × (text ≡ paste text₀ start (replicate count 0) i)
+Inv-loop text₀ count value start i₀ text i = (i ≤ count) × (length text ≡ length text₀) × (text ≡ paste text₀ start (replicate count value) i)
 
 abbrev μ-loop : tie.MeasureT-loop
-μ-loop text₀ count start i₀ text i = count - i
+μ-loop text₀ count value start i₀ text i = count - i
 
 loop-holds : tie.Need-loop-holds Inv-loop μ-loop
-loop-holds c = (omega arith, refl, paste-zero _ (c .args .at .0) (replicate (c .args .count) 0))
+loop-holds c = (omega arith, refl, paste-zero _ (c .args .at .0) (replicate (c .args .count) (c .args .value)))
 
 add-text : tie.Need-add-text Inv-loop μ-loop
 add-text c = search needs
@@ -34,7 +34,7 @@ loop-less c = search needs
 
 loop-again : tie.Need-loop-again Inv-loop μ-loop
 loop-again c = let a = c .before .before .args in let l = c .before .loop in
-    (omega arith, simp length-set (omega arith), zero-step _ (a .at .0) (a .count) (l .i) _ (l .inv .2) (omega arith) (omega arith))
+    (omega arith, simp length-set (omega arith), fill-step _ (a .at .0) (a .count) (a .value) (l .i) _ (l .inv .2) (omega arith) (omega arith))
 
 same-length : tie.Need-same-length Inv-loop μ-loop
 same-length c = search needs
@@ -43,8 +43,8 @@ returns : tie.Need-returns Inv-loop μ-loop
 returns c = let a = c .before .before .args in let l = c .before .loop in
     let z : l .i ≡ a .count = omega arith in rw (l .inv .2, z)
 
-pub clear-spec : {M : Type 1} → statement M
-clear-spec =
+pub fill-spec : {M : Type 1} → statement M
+fill-spec =
     tie.close
     (tie.spec
     Inv-loop
