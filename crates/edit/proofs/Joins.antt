@@ -1,8 +1,8 @@
 -- Demand 3 for joins: a split at the recorded columns undoes a join, and the join it returns does it again.
 use mathlib.Core.Path.{_≡_, refl, sym, _∙_, ap, subst}
-use mathlib.Core.List.{List, [], _∷_, _++_, append-assoc}
+use mathlib.Core.List.{List, [], _∷_, _++_}
 use mathlib.Core.Bool.{Bool, true, false, not, _&&_, _||_, or-true}
-use Prim.Native.Nat.{ℕ, zero, suc, _+_, _-_, _≤_, _<_, min, max}
+use Prim.Native.Nat.{ℕ, zero, suc, _+_, _-_, _≤_, min, max}
 use native.Mathlib.Nat.{min-eq-left}
 use native.Mathlib.Decide.{decLe}
 use native.Mathlib.Omega.{arith}
@@ -21,7 +21,7 @@ use Rattle.edit.specs.Refusals.{isSpace, spaces, small, smallOk, fewOk, 
 use Rattle.promise.proofs.Bools.{T-both}
 use Rattle.text.proofs.Alls.{all-append, all-left, all-right}
 use Rattle.edit.proofs.Accepted.{full, Ok, Step, Back, ok-room, ok-short, ok-admissible, ok-both}
-use Rattle.text.proofs.Ended.{notLF, Ended, final, ended, lines-ended, lines-unlines}
+use Rattle.text.proofs.Ended.{notLF, Ended, final, ended, lines-ended, lines-unlines, unlines-append, ended-right, ended-change}
 
 -- ---- one split of a row undoes one join
 
@@ -109,11 +109,6 @@ joinFlags-small b r (s ∷ rs) =
 
 -- ---- characters
 
-unlines-append : (A B : List (Line ℕ)) → unlines (A ++ B) ≡ unlines A ++ unlines B
-unfolding unlines
-unlines-append [] B = refl
-unlines-append (r ∷ A) B = rw (unlines-append A B, append-assoc (r .body) (r .after ++ unlines A) (unlines B), append-assoc (r .after) (unlines A) (unlines B))
-
 module _ (f : ℕ → Bool) (space : T (f 32)) where
   gap-all : (b : Bool) (r s : List ℕ) → T (all f (gap 32 b r s))
   unfolding gap all
@@ -157,21 +152,6 @@ unfolding joinRow
 join-ended b zero x B h = h
 join-ended b (suc m) x [] h = h
 join-ended b (suc m) x (s ∷ B) h = join-ended b m (joinNext 32 b x s) B (next-ended b h)
-
--- a row with rows below
-ended-below : {r : Line ℕ} {rs : List (Line ℕ)} → Ended (r ∷ rs) → 0 < length rs → Ended rs × ((new : List (Line ℕ)) → Ended new → Ended (r ∷ new))
-ended-below (final b p) l = absurd (omega arith)
-ended-below (ended b p h) l = (h, λ new k. ended b p k)
-
-ended-right : (A : List (Line ℕ)) (x : Line ℕ) (B : List (Line ℕ)) → Ended (A ++ x ∷ B) → Ended (x ∷ B)
-ended-right [] x B h = h
-ended-right (a ∷ A) x B h = ended-right A x B (ended-below h (omega (arith, length-append A (x ∷ B))) .0)
-
-ended-change : (A : List (Line ℕ)) (x : Line ℕ) (B new : List (Line ℕ)) → Ended (A ++ x ∷ B) → Ended new → Ended (A ++ new)
-ended-change [] x B new h k = k
-ended-change (a ∷ A) x B new h k =
-    let l : 0 < length (A ++ x ∷ B) = omega (arith, length-append A (x ∷ B)) in
-    ended-below h l .1 (A ++ new) (ended-change A x B new (ended-below h l .0) k)
 
 -- ---- the flag that a split returns joins as the first did
 

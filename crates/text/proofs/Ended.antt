@@ -1,10 +1,12 @@
 -- Rows as a text has them: no LF in a body, an LF behind each row but the last.
 use mathlib.Core.Path.{_≡_, refl, _∙_, ap}
 use mathlib.Core.Bool.{Bool, true, false, cond, not}
-use mathlib.Core.List.{List, [], _∷_, _++_, append-nil}
-use Prim.Native.Nat.{ℕ}
+use mathlib.Core.List.{List, [], _∷_, _++_, append-nil, append-assoc}
+use Prim.Native.Nat.{ℕ, _<_}
+use native.Mathlib.Omega.{arith}
 use borrow.Author.Tests.{eqb-true}
 use lib.Dec.{T}
+use lib.ListN.{length, length-append}
 use Rattle.text.specs.Rows.{Line, line, onto, lines, unlines}
 use Rattle.text.specs.Text.{isLF, all}
 use Rattle.promise.proofs.Bools.{T-left, T-right}
@@ -46,3 +48,23 @@ unfolding lines unlines
 lines-unlines (final b p) = plain-front b [] (line [] []) [] p refl ∙ rw append-nil
 lines-unlines (ended b {rs} p h) =
     plain-front b (10 ∷ unlines rs) (line [] (10 ∷ [])) rs p (ap (_∷_ (line [] (10 ∷ []))) (lines-unlines h)) ∙ rw append-nil
+
+pub unlines-append : (A B : List (Line ℕ)) → unlines (A ++ B) ≡ unlines A ++ unlines B
+unfolding unlines
+unlines-append [] B = refl
+unlines-append (r ∷ A) B = rw (unlines-append A B, append-assoc (r .body) (r .after ++ unlines A) (unlines B), append-assoc (r .after) (unlines A) (unlines B))
+
+-- a row with rows below
+ended-below : {r : Line ℕ} {rs : List (Line ℕ)} → Ended (r ∷ rs) → 0 < length rs → Ended rs × ((new : List (Line ℕ)) → Ended new → Ended (r ∷ new))
+ended-below (final b p) l = absurd (omega arith)
+ended-below (ended b p h) l = (h, λ new k. ended b p k)
+
+pub ended-right : (A : List (Line ℕ)) (x : Line ℕ) (B : List (Line ℕ)) → Ended (A ++ x ∷ B) → Ended (x ∷ B)
+ended-right [] x B h = h
+ended-right (a ∷ A) x B h = ended-right A x B (ended-below h (omega (arith, length-append A (x ∷ B))) .0)
+
+pub ended-change : (A : List (Line ℕ)) (x : Line ℕ) (B new : List (Line ℕ)) → Ended (A ++ x ∷ B) → Ended new → Ended (A ++ new)
+ended-change [] x B new h k = k
+ended-change (a ∷ A) x B new h k =
+    let l : 0 < length (A ++ x ∷ B) = omega (arith, length-append A (x ∷ B)) in
+    ended-below h l .1 (A ++ new) (ended-change A x B new (ended-below h l .0) k)

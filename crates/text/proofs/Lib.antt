@@ -8,3 +8,4 @@ pub mod Alls
 pub mod Ended
 pub mod Spots
 pub mod Walks
+pub mod Changes

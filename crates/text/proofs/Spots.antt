@@ -9,6 +9,7 @@ use lib.Dec.{ltb}
 use lib.ListN.{length, take, drop, length-append, take-append-drop}
 use lib.Seq.{slice, take-take}
 use Rattle.text.specs.declared.Position.{Position}
+use Rattle.text.specs.Text.{isLF}
 use Rattle.text.specs.Rows.{Line, lines, unlines, at, upto, _⊕_, lastRow, rowLen, rowStart, clamp, offset, endOf}
 use Rattle.text.proofs.Laws.{start-lf, start-other, start-first, start-none, len-lf-next, len-other-next, len-none, len-le, last-le, end-append}
 
@@ -73,3 +74,13 @@ pub cut-parts : {A : Type 0} (a b : ℕ) (t : List A) → a ≤ b → take a t +
 cut-parts {A} a b t h =
     ap (λ (l : List A). l ++ (slice a b t ++ drop b t)) (sym (take-take a b t h)) ∙ sym (append-assoc (take a (take b t)) (slice a b t) (drop b t))
     ∙ ap (λ (l : List A). l ++ drop b t) (take-append-drop a (take b t)) ∙ take-append-drop b t
+
+-- the end of a text that stands at p, from the text's last row
+module _ (t : List ℕ) (p : Position) (l n : ℕ) (e : l ≡ lastRow isLF t) (f : n ≡ rowLen isLF t l) where
+  pub end-in-row : l ≡ 0 → at (p .row .0) (p .col .0 + n) ≡ p ⊕ endOf isLF t
+  unfolding _⊕_ endOf
+  end-in-row z = rw (← e, ← f, eq-eqb l 0 z)
+
+  pub end-below : (l ≡ 0 → ⊥) → at (p .row .0 + l) n ≡ p ⊕ endOf isLF t
+  unfolding _⊕_ endOf
+  end-below z = rw (← e, ← f, ne-eqb l 0 z)

@@ -1,0 +1,15 @@
+use borrow.Author.Needs.{needs}
+use Rattle.plan.proofs.next_view.Statement.{statement}
+use Rattle.plan.proofs.next_view.Tie as tie
+use Rattle.plan.proofs.next_view.Reads as reads
+use Rattle.plan.proofs.next_view.Lts as lts
+use Rattle.std.proofs.num.wrapping_add_u64.Reads as wrapping-add-u64-reads
+
+wrapping-add-u64-requires : tie.Need-wrapping-add-u64-requires
+wrapping-add-u64-requires c κs = search needs
+
+returns : tie.Need-returns
+returns c = rw (c .wrapping-add-u64 .ensures)
+
+pub next-view-spec : {M : Type 1} → statement M
+next-view-spec = tie.close (tie.spec wrapping-add-u64-requires returns)
