@@ -9,8 +9,9 @@ use lib.Dec.{ltb}
 use lib.ListN.{length, take, drop, length-append, take-append-drop}
 use lib.Seq.{slice, take-take}
 use Rattle.text.specs.declared.Position.{Position}
+use Rattle.text.specs.declared.Place.{Place}
 use Rattle.text.specs.Text.{isLF}
-use Rattle.text.specs.Rows.{Line, lines, unlines, at, upto, _⊕_, lastRow, rowLen, rowStart, clamp, offset, endOf}
+use Rattle.text.specs.Rows.{Line, lines, unlines, at, upto, _⊕_, lastRow, rowLen, rowStart, clamp, offset, place, endOf}
 use Rattle.text.proofs.Laws.{start-lf, start-other, start-first, start-none, len-lf-next, len-other-next, len-none, len-le, last-le, end-append}
 
 upto-added : (a b r c : ℕ) → upto (at a b) (at a b ⊕ at r c) ≡ true
@@ -33,6 +34,13 @@ module _ {A : Type 0} (lf : A → Bool) where
   pub offset-le : (t : List A) (p : Position) → offset lf t p ≤ length t
   unfolding offset clamp
   offset-le t p = let r : ℕ = min (p .row .0) (lastRow lf t) in omega (arith, row-within t r)
+
+  -- a clamped position is no further than the text is long
+  pub place-within : (t : List A) (p : Position) (f : Place) → f ≡ place lf t p → (f .pos .row .0 ≤ length t) × (f .pos .col .0 ≤ length t) × (f .at .0 ≤ length t)
+  unfolding clamp
+  place-within t p f e =
+      let r : ℕ = min (p .row .0) (lastRow lf t) in
+      rw e (omega (arith, last-le lf t), omega (arith, len-le lf t r), offset-le t p)
 
   pub clamp-place : (t : List A) (r c : ℕ) → r ≤ lastRow lf t → c ≤ rowLen lf t r → clamp lf t (at r c) ≡ at r c
   unfolding clamp

@@ -19,7 +19,7 @@ pub use rows::locate;
 pub use rows::pos_to_char_idx;
 pub use rows::row_count;
 ghost use mathlib.Core.Path.{_≡_};
-ghost use Prim.Native.Nat.{min};
+ghost use Prim.Native.Nat.{min, max};
 ghost use Rattle.text.specs.Rows.{upto, earlier, later};
 
 pub struct Row(pub u32);
@@ -65,6 +65,20 @@ impl Row {
         ensures { λ r. ⌜ r .0 ≡ min (self .0) (other .0) ⌝ }
     {
         if self.0 <= other.0 { self } else { other }
+    }
+
+    pub fn max(self, other: Row) -> Row
+        ensures { λ r. ⌜ r .0 ≡ max (self .0) (other .0) ⌝ }
+    {
+        if self.0 <= other.0 { other } else { self }
+    }
+}
+
+impl CharOffset {
+    pub fn max(self, other: CharOffset) -> CharOffset
+        ensures { λ r. ⌜ r .0 ≡ max (self .0) (other .0) ⌝ }
+    {
+        if self.0 <= other.0 { other } else { self }
     }
 }
 
