@@ -6,6 +6,7 @@ pub mod Joins
 pub mod Blocks
 pub mod Undo
 pub mod Calls
+pub mod Sums
 pub mod Demand3
 pub mod Theorems
 pub mod Examples

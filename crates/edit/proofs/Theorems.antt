@@ -136,7 +136,7 @@ undoable-exactly v e l =
 
 -- ---- answers
 
-refusalBack : ℕ → ℕ → Refusal
+pub refusalBack : ℕ → ℕ → Refusal
 refusalBack n k =
     cond (eqb n 1) BadText
     (cond (eqb n 2) TooBig
@@ -152,7 +152,7 @@ answerBack : Paper Applied → Answer
 answerBack (done a) = Done a
 answerBack (refused n k) = Refused (refusalBack n k)
 
-refusal-back : (r : Refusal) → refusalBack (numberOf r) (offsetOf r) ≡ r
+pub refusal-back : (r : Refusal) → refusalBack (numberOf r) (offsetOf r) ≡ r
 unfolding refusalBack
 refusal-back BadText = refl
 refusal-back TooBig = refl

@@ -8,7 +8,7 @@ use borrow.Author.Tests.{eq-eqb, ne-eqb}
 use lib.ListN.{length, drop, getD, drop-of-length-le}
 use Rattle.promise.proofs.Lists.{next}
 use Rattle.text.specs.Rows.{lastRow, rowLen, rowStart}
-use Rattle.text.specs.Text.{isLF, admissible, all, allAdmissible}
+use Rattle.text.specs.Text.{isLF, all}
 use Rattle.text.proofs.Laws.{start-lf, start-other, start-none, len-lf, len-other, len-none, last-lf, last-other, last-none}
 
 module _ (s : List ℕ) (i : ℕ) (h : i < length s) where
@@ -32,10 +32,9 @@ module _ (s : List ℕ) (i : ℕ) (h : i < length s) where
   pub len-at-other : (getD s i 0 ≡ 10 → ⊥) → rowLen isLF (drop i s) 0 ≡ suc (rowLen isLF (drop (i + 1) s) 0)
   len-at-other e = rw (next s i h) (len-other isLF (getD s i 0) (drop (i + 1) s) (ne-eqb (getD s i 0) 10 e))
 
-  pub all-at : (so-far b : Bool) → b ≡ admissible (getD s i 0) → (so-far && allAdmissible (drop i s)) ≡ allAdmissible s
-      → ((so-far && b) && allAdmissible (drop (i + 1) s)) ≡ allAdmissible s
+  pub all-at : (f : ℕ → Bool) (so-far b : Bool) → b ≡ f (getD s i 0) → (so-far && all f (drop i s)) ≡ all f s → ((so-far && b) && all f (drop (i + 1) s)) ≡ all f s
   unfolding all
-  all-at so-far b e inv = rw (e, and-assoc) (rw (next s i h) at inv)
+  all-at f so-far b e inv = rw (e, and-assoc) (rw (next s i h) at inv)
 
 module _ (s : List ℕ) (i : ℕ) (h : length s ≤ i) where
   pub last-at-end : lastRow isLF (drop i s) ≡ 0
@@ -47,6 +46,6 @@ module _ (s : List ℕ) (i : ℕ) (h : length s ≤ i) where
   pub len-at-end : rowLen isLF (drop i s) 0 ≡ 0
   len-at-end = rw (drop-of-length-le s h) (len-none isLF 0)
 
-  pub all-at-end : (so-far : Bool) → (so-far && allAdmissible (drop i s)) ≡ allAdmissible s → so-far ≡ allAdmissible s
+  pub all-at-end : (f : ℕ → Bool) (so-far : Bool) → (so-far && all f (drop i s)) ≡ all f s → so-far ≡ all f s
   unfolding all
-  all-at-end so-far inv = rw (drop-of-length-le s h, and-true) at inv
+  all-at-end f so-far inv = rw (drop-of-length-le s h, and-true) at inv

@@ -5,7 +5,7 @@ use native.Mathlib.Omega.{arith}
 use borrow.Author.Needs.{needs}
 use lib.ListN.{length, drop}
 use Rattle.text.proofs.Scans.{all-at, all-at-end}
-use Rattle.text.specs.Text.{allAdmissible}
+use Rattle.text.specs.Text.{admissible, allAdmissible}
 use Rattle.text.proofs.admit.all_admissible.Statement.{statement}
 use Rattle.text.proofs.admit.all_admissible.Tie as tie
 
@@ -34,10 +34,10 @@ loop-less : tie.Need-loop-less Inv-loop μ-loop
 loop-less c = search needs
 
 loop-again : tie.Need-loop-again Inv-loop μ-loop
-loop-again c = let l = c .before .before .before .loop in (omega arith, all-at _ (l .i) (c .before .before .loop-test .taken) (l .all) _ (c .is-admissible .ensures) (l .inv .1))
+loop-again c = let l = c .before .before .before .loop in (omega arith, all-at _ (l .i) (c .before .before .loop-test .taken) admissible (l .all) _ (c .is-admissible .ensures) (l .inv .1))
 
 returns : tie.Need-returns Inv-loop μ-loop
-returns c = let l = c .before .loop in all-at-end _ (l .i) (c .loop-test .left) (l .all) (l .inv .1)
+returns c = let l = c .before .loop in all-at-end _ (l .i) (c .loop-test .left) admissible (l .all) (l .inv .1)
 
 pub all-admissible-spec : {M : Type 1} → statement M
 all-admissible-spec =

@@ -1,0 +1,21 @@
+-- Tests of numbers, as code makes them.
+use mathlib.Core.Path.{_≡_, refl, sym, _∙_}
+use mathlib.Core.Bool.{Bool, true, false, _||_}
+use Prim.Native.Nat.{ℕ, zero, suc, _+_, min, max}
+use native.Mathlib.Omega.{arith}
+use borrow.Author.Tests.{eq-eqb, ne-eqb, le-leb, lt-leb, leb-true, leb-false}
+use lib.Dec.{leb, eqb}
+
+-- what is left once s is taken from a total
+pub none-left : (s total left : ℕ) → s + left ≡ total → eqb left 0 ≡ eqb s total
+none-left s total zero h = sym (eq-eqb s total (omega arith))
+none-left s total (suc left) h = ne-eqb (suc left) 0 (omega arith) ∙ sym (ne-eqb s total (omega arith))
+
+-- the joins that a join would make, of m rows below: 256 at most
+pub few-joins : (n m : ℕ) → (leb n 256 || leb m 256) ≡ leb (min (max n 1) m) 256
+few-joins n m = go (leb n 256) (leb m 256) refl refl
+  where
+    go : (a b : Bool) → leb n 256 ≡ a → leb m 256 ≡ b → (a || b) ≡ leb (min (max n 1) m) 256
+    go true b e f = sym (le-leb (min (max n 1) m) 256 (omega (arith, leb-true n 256 e)))
+    go false true e f = sym (le-leb (min (max n 1) m) 256 (omega (arith, leb-true m 256 f)))
+    go false false e f = sym (lt-leb (min (max n 1) m) 256 (omega (arith, leb-false n 256 e, leb-false m 256 f)))
