@@ -2,19 +2,22 @@
 use mathlib.Core.Path.{_≡_, refl, sym}
 use mathlib.Core.Bool.{Bool, true, false}
 use mathlib.Core.List.{List, [], _∷_, _++_}
-use Prim.Native.Nat.{ℕ, _≤_}
+use Prim.Native.Nat.{ℕ, _-_, _≤_}
 use lib.Dec.{T, leb, leb→le}
-use lib.ListN.{length}
+use lib.ListN.{length, take, drop}
 use Rattle.promise.specs.Paper.{Paper, done, refused}
-use Rattle.promise.proofs.Bools.{T-left, T-right}
+use Rattle.promise.proofs.Bools.{T-true, T-left, T-right}
 use Rattle.text.specs.Text.{textOk}
+use Rattle.text.proofs.Texts.{front, text-true}
 use Rattle.edit.specs.declared.View.{View}
 use Rattle.edit.specs.declared.Edit.{Edit}
 use Rattle.edit.specs.declared.Refusal.{Refusal}
+use Rattle.edit.specs.declared.Verdict.{Verdict}
+use Rattle.edit.specs.declared.Verdict.the-variants.{Fine, Bad}
 use Rattle.edit.specs.declared.Room.{Room}
 use Rattle.edit.specs.Edits.{Edited}
 use Rattle.edit.specs.Refusals.{short, smallOk, fewOk, payloadOk, withinOk, roomOk, recordOk}
-use Rattle.edit.specs.Call.{numberOf, offsetOf, firstOf, verdictOf, Lent, outcome, textOf, resultOf, roomOf, givenTests, resultTests, appliedAs, leaves, finished, applied}
+use Rattle.edit.specs.Call.{numberOf, offsetOf, paperVerdict, firstOf, verdictOf, Lent, outcome, textOf, resultOf, roomOf, givenTests, resultTests, appliedAs, leaves, finished, applied, isUndoable, undoable}
 use Rattle.edit.proofs.Accepted.{record-fits}
 use Rattle.edit.proofs.Calls.{passed}
 
@@ -108,3 +111,17 @@ given-passed v e l h =
     let t3 = passed (fewOk (textOf v l) e (l .payload) (l .first) (l .second)) _ _ _ _ (t2 .1) in
     let t4 = passed (payloadOk e (l .payload) (l .first)) _ _ _ _ (t3 .1) in
     record { textual = t1 .0; smalls = t2 .0; fews = t3 .0; payloads = t4 .0 }
+
+-- ---- from the verdict on rows 1 to 4, by its case
+
+module _ (v : View) (e : Edit) (l : Lent) (x : Verdict) (h : paperVerdict x ≡ verdictOf (givenTests v e l)) where
+  pub fine-text : x ≡ Fine → (v .used ≤ length (l .buffer)) × (v .used ≤ 16_384)
+  fine-text q = text-true (l .buffer) (v .used) (T-true (textOk (l .buffer) (v .used)) (given-passed v e l (rw q at h) .textual))
+
+  pub undoable-bad : (r : Refusal) → x ≡ Bad r → refused (numberOf r) (offsetOf r) ≡ undoable v e l
+  unfolding undoable
+  undoable-bad r q = sym (first-refuses (givenTests v e l) (numberOf r) (offsetOf r) (rw q at h) (done (isUndoable (textOf v l) e)))
+
+  pub undoable-fine : (b : Bool) → x ≡ Fine → b ≡ isUndoable (take (v .used - 0) (drop 0 (l .buffer))) e → done b ≡ undoable v e l
+  unfolding undoable
+  undoable-fine b q f = rw (first-passes (givenTests v e l) (rw q at h) (done (isUndoable (textOf v l) e)), ← front (l .buffer) (v .used), ← f)

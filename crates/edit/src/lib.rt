@@ -3,12 +3,26 @@
 use text::Position;
 use text::Row;
 use utf8::ByteOffset;
+ghost use mathlib.Core.Path.{_≡_};
 
 // A text's used length in its buffer, the cursor, and how many edits were accepted, modulo 2^64.
 pub struct View {
     pub used: usize,
     pub cursor: Position,
     pub changes: u64,
+}
+
+impl View {
+    // The one place where a view is made anew.
+    pub fn renew(self, used: usize, cursor: Position, changes: u64) -> View
+        ensures { λ r. ⌜ r ≡ record { used = used; cursor = cursor; changes = changes } ⌝ }
+    {
+        View {
+            used,
+            cursor,
+            changes,
+        }
+    }
 }
 
 pub enum MotionKind {

@@ -55,9 +55,6 @@ pub fn end_after(pos: Position, text: &[u32]) -> Position
 pub fn next_view(view: View, used: usize, cursor: Position) -> View
     ensures { λ r. ⌜ r ≡ record { used = used; cursor = cursor; changes = (view .changes + 1) % 2 ^ 64 } ⌝ }
 {
-    View {
-        used,
-        cursor,
-        changes: std::num::wrapping_add_u64(view.changes, 1),
-    }
+    let changes = std::num::wrapping_add_u64(view.changes, 1);
+    view.renew(used, cursor, changes)
 }

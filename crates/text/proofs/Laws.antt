@@ -25,11 +25,11 @@ module _ {A : Type 0} (lf : A → Bool) where
 
   -- an LF ends a row, and any other element goes before the first one
   module _ (x : A) (t : List A) where
-    lines-lf : lf x ≡ true → lines lf (x ∷ t) ≡ line [] (x ∷ []) ∷ lines lf t
+    pub lines-lf : lf x ≡ true → lines lf (x ∷ t) ≡ line [] (x ∷ []) ∷ lines lf t
     unfolding lines
     lines-lf e = rw e
 
-    lines-other : lf x ≡ false → lines lf (x ∷ t) ≡ line (x ∷ lines-cons t .0 .body) (lines-cons t .0 .after) ∷ lines-cons t .1
+    pub lines-other : lf x ≡ false → lines lf (x ∷ t) ≡ line (x ∷ lines-cons t .0 .body) (lines-cons t .0 .after) ∷ lines-cons t .1
     unfolding lines onto
     lines-other e = rw (e, lines-cons t .2)
 
@@ -340,6 +340,18 @@ module _ {A : Type 0} (lf : A → Bool) where
           → rowLen lf (drop (rowStart lf (x ∷ t) (suc r)) (x ∷ t)) 0 ≡ rowLen lf (x ∷ t) (suc r)
       go true e h k = rw (start-lf lf x t r e, len-lf-next lf x t r e) h
       go false e h k = rw (start-other lf x t r e, len-other-next lf x t r e) k
+
+  -- the rows from r on are those of what follows its start
+  pub lines-from : (t : List A) (r : ℕ) → r ≤ lastRow lf t → lines lf (drop (rowStart lf t r) t) ≡ drop r (lines lf t)
+  lines-from t zero h = rw (start-first lf t)
+  lines-from [] (suc r) h = absurd (omega (arith, last-none))
+  lines-from (x ∷ t) (suc r) h = go (lf x) refl (lines-from t r) (lines-from t (suc r))
+    where
+      go : (b : Bool) → lf x ≡ b → (r ≤ lastRow lf t → lines lf (drop (rowStart lf t r) t) ≡ drop r (lines lf t))
+          → (suc r ≤ lastRow lf t → lines lf (drop (rowStart lf t (suc r)) t) ≡ drop (suc r) (lines lf t))
+          → lines lf (drop (rowStart lf (x ∷ t) (suc r)) (x ∷ t)) ≡ drop (suc r) (lines lf (x ∷ t))
+      go true e k l = rw (start-lf lf x t r e, lines-lf lf x t e) (k (omega (arith, last-lf x t e)))
+      go false e k l = rw (start-other lf x t r e, l (omega (arith, last-other x t e)), lines-other lf x t e, lines-cons lf t .2)
 
   pub len-le : (t : List A) (r : ℕ) → rowLen lf t r ≤ length t
   len-le [] r = rw (len-none lf) (omega arith)

@@ -31,7 +31,7 @@ module _ (b : List ℕ) (used : ℕ) where
   unfolding textOk
   text-scanned r h k e = rw (le-leb used (length b) h, le-leb used 16384 k, ← front b used) e
 
-  text-true : textOk b used ≡ true → (used ≤ length b) × (used ≤ 16384)
+  pub text-true : textOk b used ≡ true → (used ≤ length b) × (used ≤ 16384)
   unfolding textOk
   text-true e =
       let p = both (leb used (length b) && leb used 16384) (allAdmissible (take used b)) e in

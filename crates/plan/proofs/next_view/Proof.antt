@@ -1,15 +1,21 @@
+use mathlib.Core.Path.{_∙_, ap}
+use Prim.Native.Nat.{ℕ}
 use borrow.Author.Needs.{needs}
 use Rattle.plan.proofs.next_view.Statement.{statement}
 use Rattle.plan.proofs.next_view.Tie as tie
 use Rattle.plan.proofs.next_view.Reads as reads
 use Rattle.plan.proofs.next_view.Lts as lts
+use Rattle.edit.proofs.View.renew.Reads as renew-reads
 use Rattle.std.proofs.num.wrapping_add_u64.Reads as wrapping-add-u64-reads
 
 wrapping-add-u64-requires : tie.Need-wrapping-add-u64-requires
 wrapping-add-u64-requires c κs = search needs
 
+renew-requires : tie.Need-renew-requires
+renew-requires c κs = search needs
+
 returns : tie.Need-returns
-returns c = rw (c .wrapping-add-u64 .ensures)
+returns c = c .renew .ensures ∙ ap (λ (n : ℕ). record { used = c .before .before .args .used; cursor = c .before .before .args .cursor; changes = n }) (c .before .wrapping-add-u64 .ensures)
 
 pub next-view-spec : {M : Type 1} → statement M
-next-view-spec = tie.close (tie.spec wrapping-add-u64-requires returns)
+next-view-spec = tie.close (tie.spec wrapping-add-u64-requires renew-requires returns)

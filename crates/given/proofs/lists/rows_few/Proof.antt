@@ -1,0 +1,33 @@
+use borrow.Author.Needs.{needs}
+use Rattle.edit.specs.Refusals.{fewRows}
+use Rattle.given.proofs.lists.rows_few.Statement.{statement}
+use Rattle.given.proofs.lists.rows_few.Tie as tie
+
+enum-told : tie.Need-enum-told
+enum-told c = search needs
+
+enum-told-2 : tie.Need-enum-told-2
+enum-told-2 c = search needs
+
+enum-told-3 : tie.Need-enum-told-3
+enum-told-3 c = search needs
+
+height-requires : tie.Need-height-requires
+height-requires c κs = search needs
+
+returns : tie.Need-returns
+unfolding fewRows
+returns c = rw (c .enum-told .given .1)
+
+returns-2 : tie.Need-returns-2
+unfolding fewRows
+returns-2 c = rw (c .enum-told2 .given .1)
+
+returns-3 : tie.Need-returns-3
+unfolding fewRows
+returns-3 c = rw (c .before .enum-told3 .given .1, c .height .ensures)
+
+pub rows-few-spec : {M : Type 1} → statement M
+rows-few-spec =
+    tie.close
+    (tie.spec enum-told enum-told-2 enum-told-3 height-requires returns returns-2 returns-3)

@@ -1,0 +1,61 @@
+// Refusals 1 to 4: what is judged of an edit before anything is done.
+mod lists;
+mod numbers;
+mod payload;
+
+use crate::lists::lists_few;
+use crate::numbers::numbers_small;
+use crate::payload::payload_good;
+use edit::Edit;
+use edit::Refusal;
+use edit::Verdict;
+use edit::View;
+pub use lists::height;
+use text::is_text;
+ghost use mathlib.Core.List.{List};
+ghost use mathlib.Core.Path.{_≡_};
+ghost use Prim.Native.Nat.{ℕ};
+ghost use Rattle.edit.specs.Call.{paperVerdict, verdictOf, givenTests, lent};
+ghost use Rattle.given.specs.Tests.{laterTests};
+
+// The greatest number that an edit has.
+pub const NUMBER_LIMIT: u32 = 1_000_000;
+
+// The most items that a list has, rows that a block delete spans, and joins that a join makes.
+pub const LIST_LIMIT: usize = 256;
+
+fn first_refusal(small: bool, few: bool, good: bool) -> Verdict
+    ensures { λ r. ⌜ paperVerdict r ≡ verdictOf (laterTests small few good) ⌝ }
+{
+    if !small {
+        return Verdict::Bad(Refusal::TooBig);
+    }
+    if !few {
+        return Verdict::Bad(Refusal::TooMany);
+    }
+    if !good {
+        return Verdict::Bad(Refusal::BadPayload);
+    }
+    Verdict::Fine
+}
+
+// The first of refusals 1 to 4 that an edit meets, with its payload and lists, on the view's text.
+pub fn judge(
+    buffer: &[u32],
+    view: View,
+    edit: Edit,
+    payload: &[u32],
+    first: &[u32],
+    second: &[u32],
+) -> Verdict
+    ensures { λ r. ⌜ ((op of os : List ℕ) → paperVerdict r ≡ verdictOf (givenTests view edit (lent (now (buffer .entry)) (now (payload .entry)) (now (first .entry)) (now (second .entry)) op of os))) ⌝ }
+{
+    let used = view.used;
+    if !is_text(buffer, used) {
+        return Verdict::Bad(Refusal::BadText);
+    }
+    let small = numbers_small(edit, first, second);
+    let few = lists_few(&buffer[0..used], edit, payload, first, second);
+    let good = payload_good(edit, payload, first);
+    first_refusal(small, few, good)
+}
