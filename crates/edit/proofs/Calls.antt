@@ -249,6 +249,13 @@ accepted-once s w o a e p f g =
     called-accepted s w (after a (called s w o)) (returned a (called s w o))
     (once-called s w o a e (record-room (full (length (s .buffer))) i (omega arith) (omega arith) (omega arith)))
 
+-- the inverse that an accepted call hands back is within the slices lent for it
+pub answer-fits : (s : State) (w : Whole ℕ) (o : Beside) (a : Applied) → called s w o .answer ≡ done a
+    → (a .payload ≤ length (o .payload)) × (a .first ≤ length (o .first)) × (a .second ≤ length (o .second))
+answer-fits s w o a e =
+    let x = tested s w o a e in
+    rw (x .answer) (record-fits (roomOf (lentAt s w o)) (doing w (text s) .inverse) (x .recorded))
+
 abbrev pub exact : State → Beside
 exact s = record { cursor = at 0 0; changes = 0; payload = replicate (length (s .buffer)) 0; first = replicate 256 0; second = replicate 256 0 }
 

@@ -68,7 +68,7 @@ read n (step {s = s} {u = u} {e = w} {i = i} h r) k =
 
 -- ---- the theorem
 
-held-undone : (n : ℕ) {s u : State} (r : Run Undoable s u) → Held n s → Undone r
+held-undone : (n : ℕ) {s u : State} (r : Run Undoable s u) → Held n s → Undone Accepted r
 held-undone n {s} {u} r k =
     let d = read n r k in
     let t = undone-texts n (d .run) in

@@ -74,6 +74,26 @@ module _ {S E : Type 0} where
     stages-snoc stop k = refl
     stages-snoc (step {s = s} h r) k = ap {B = List S} (λ l. s ∷ l) (stages-snoc r k)
 
+  -- a run whose steps are read as steps of another sort
+  module _ {Step : S → E → S → E → Type 0} (Other : S → E → S → E → Type 0) where
+    pub record Alike {s w : S} (r : Run Step s w) : Type 0 where
+      pub run : Run Other s w
+      pub same-edits : edits run ≡ edits r
+      pub same-inverses : inverses run ≡ inverses r
+      pub same-stages : stages run ≡ stages r
+
+    pub alike : ((s : S) (e : E) (u : S) (i : E) → Step s e u i → Other s e u i) → {s w : S} (r : Run Step s w) → Alike r
+    unfolding edits inverses stages
+    alike f stop = record { run = stop; same-edits = refl; same-inverses = refl; same-stages = refl }
+    alike f (step {s = s} {u = u} {e = e} {i = i} h r) =
+        let d = alike f r in
+        record {
+          run = step (f s e u i h) (d .run);
+          same-edits = ap {B = List E} (λ l. e ∷ l) (d .same-edits);
+          same-inverses = ap {B = List E} (λ l. i ∷ l) (d .same-inverses);
+          same-stages = ap {B = List S} (λ l. s ∷ l) (d .same-stages);
+        }
+
   module _ (Good Step : S → E → S → E → Type 0) where
     -- back through the very states of a run, and through them again
     pub record Retraced {s w : S} (r : Run Good s w) : Type 0 where

@@ -74,16 +74,17 @@ Undoable s w u i = Accepted s w u i × ((o : Beside) → undoable (viewAt s o) (
 
 -- demand 3: "every returned inverse is accepted, and applying them last first gives back the text at each stage, character for character.
 -- The inverses which those give, again applied last first, are accepted and rebuild the edited text at each stage."
-pub record Undone {s w : State} (r : Run Undoable s w) : Type 0 where
+-- Done is what is known of each edit of the run, Redo of each inverse applied and of each inverse of those.
+pub record Undone {Done : State → Whole ℕ → State → Whole ℕ → Type 0} (Redo : State → Whole ℕ → State → Whole ℕ → Type 0) {s w : State} (r : Run Done s w) : Type 0 where
   pub origin : State
-  pub back : Run Accepted w origin
+  pub back : Run Redo w origin
   pub back-edits : edits back ≡ reverse (inverses r)
   pub back-texts : map text (stages back) ≡ reverse (map text (stages r))
   pub final : State
-  pub again : Run Accepted origin final
+  pub again : Run Redo origin final
   pub again-edits : edits again ≡ reverse (inverses back)
   pub again-texts : map text (stages again) ≡ map text (stages r)
 
 -- demand 3: "Take a run of accepted edits"
 abbrev pub Demand3 : Type 0
-Demand3 = (s w : State) (r : Run Undoable s w) → Undone r
+Demand3 = (s w : State) (r : Run Undoable s w) → Undone Accepted r
