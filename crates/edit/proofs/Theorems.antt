@@ -148,7 +148,7 @@ refusalBack n k =
     (cond (eqb n 8) NoRoom
     (cond (eqb n 9) NoRecord BadFrame))))))))
 
-answerBack : Paper Applied → Answer
+pub answerBack : Paper Applied → Answer
 answerBack (done a) = Done a
 answerBack (refused n k) = Refused (refusalBack n k)
 
@@ -165,7 +165,7 @@ refusal-back NoRoom = refl
 refusal-back NoRecord = refl
 refusal-back BadFrame = refl
 
-answer-back : (x : Answer) → answerBack (paperAnswer x) ≡ x
+pub answer-back : (x : Answer) → answerBack (paperAnswer x) ≡ x
 unfolding answerBack
 answer-back (Done a) = refl
 answer-back (Refused r) = ap (λ (r : Refusal). Refused r) (refusal-back r)
