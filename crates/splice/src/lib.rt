@@ -47,7 +47,7 @@ pub fn copy_in(to: &mut [u32], at: CharOffset, from: &[u32])
     }
 }
 
-fn fill(text: &mut [u32], at: CharOffset, count: usize, value: u32)
+pub fn fill(text: &mut [u32], at: CharOffset, count: usize, value: u32)
     requires { ⌜ at .0 + count ≤ length (now text) ⌝ }
     ensures { λ _. ⌜ now (text .exit) ≡ paste (now (text .entry)) (at .0) (replicate count value) count ⌝ }
 {

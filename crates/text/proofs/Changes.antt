@@ -22,8 +22,11 @@ module _ (t : List ℕ) (r : ℕ) (h : r ≤ lastRow isLF t) where
   unfolding rowCount
   row-exists = omega (arith, count-last isLF t)
 
+  pub row-from : drop r (lines isLF t) ≡ rowOf t r ∷ drop (suc r) (lines isLF t)
+  row-from = drop-cons (lines isLF t) r (line [] []) row-exists
+
   pub rows-around : lines isLF t ≡ take r (lines isLF t) ++ rowOf t r ∷ drop (suc r) (lines isLF t)
-  rows-around = sym (take-append-drop r (lines isLF t)) ∙ ap (λ (l : List (Line ℕ)). take r (lines isLF t) ++ l) (drop-cons (lines isLF t) r (line [] []) row-exists)
+  rows-around = sym (take-append-drop r (lines isLF t)) ∙ ap (λ (l : List (Line ℕ)). take r (lines isLF t) ++ l) row-from
 
   -- the rows from r on replaced by others, with what ends them as a text has it
   pub rows-changed : (new : List (Line ℕ)) → Ended new → lines isLF (unlines (take r (lines isLF t) ++ new)) ≡ take r (lines isLF t) ++ new
@@ -34,7 +37,7 @@ module _ (t : List ℕ) (r : ℕ) (h : r ≤ lastRow isLF t) where
   pub rows-below : Ended (rowOf t r ∷ drop (suc r) (lines isLF t))
   rows-below = ended-right (take r (lines isLF t)) (rowOf t r) (drop (suc r) (lines isLF t)) (rw (← rows-around) (lines-ended t))
 
-  text-around : t ≡ unlines (take r (lines isLF t)) ++ (wholeRow (rowOf t r) ++ unlines (drop (suc r) (lines isLF t)))
+  pub text-around : t ≡ unlines (take r (lines isLF t)) ++ (wholeRow (rowOf t r) ++ unlines (drop (suc r) (lines isLF t)))
   unfolding unlines
   text-around =
       sym (unlines-lines isLF t) ∙ ap unlines rows-around ∙ unlines-append (take r (lines isLF t)) (rowOf t r ∷ drop (suc r) (lines isLF t))

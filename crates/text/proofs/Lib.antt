@@ -9,3 +9,4 @@ pub mod Ended
 pub mod Spots
 pub mod Walks
 pub mod Changes
+pub mod Turns

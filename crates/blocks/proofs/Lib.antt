@@ -1,0 +1,3 @@
+pub mod Puts
+pub mod Putting
+pub mod Reached

@@ -1,0 +1,150 @@
+-- One chunk of a block put in, and then the others.
+use mathlib.Core.Path.{_≡_, refl, sym, _∙_, ap}
+use mathlib.Core.List.{List, [], _∷_, _++_, append-assoc, append-nil}
+use Prim.Native.Nat.{ℕ, zero, suc, _+_, _-_, _≤_, _<_, min}
+use native.Mathlib.Nat.{sub-eq-zero-of-le, min-eq-left, min-eq-right}
+use native.Mathlib.Decide.{decLe}
+use native.Mathlib.Omega.{arith}
+use lib.ListN.{length, take, drop, getD, replicate, length-append, length-take, length-drop, length-replicate, drop-of-length-le, take-append-drop}
+use lib.Seq.{take-all, take-length, drop-length}
+use Rattle.text.specs.declared.Position.{Position}
+use Rattle.text.specs.declared.Place.{Place}
+use Rattle.text.specs.Rows.{place, Line, line, lines, unlines, at, rowCount, lastRow, rowLen, clamp, offset, spliced}
+use Rattle.text.specs.Text.{isLF, all}
+use Rattle.promise.proofs.Lists.{next}
+use Rattle.text.proofs.Laws.{unlines-lines, count-last}
+use Rattle.text.proofs.Alls.{all-append}
+use Rattle.text.proofs.Ended.{notLF, Plain, unlines-append}
+use Rattle.text.proofs.Changes.{rowOf, row-from}
+use Rattle.text.proofs.Spots.{offset-row}
+use Rattle.edit.specs.Edits.{Edited, put, putAll, padsOf, pieces, blockInserted}
+use Rattle.edit.specs.Refusals.{isSpace, spaces, sum}
+use Rattle.edit.proofs.Blocks.{padsOf-length}
+use Rattle.blocks.specs.Blocks.{putAt}
+use Rattle.text.proofs.Turns.{newRow, Turned, below-turned, count-turned, from-turned}
+
+abbrev pub inserted : List ℕ → ℕ → ℕ → List ℕ → List ℕ → Edited ℕ
+inserted t r c x ns = blockInserted isLF isSpace spaces t (at r c) x ns
+
+abbrev pub padAt : List ℕ → ℕ → ℕ → ℕ
+padAt t r c = c - rowLen isLF t r
+
+-- ---- one row
+
+put-spliced : (c : ℕ) (k b : List ℕ) → put 32 c k b ≡ spliced b (min c (length b)) (min c (length b)) (replicate (c - length b) 32 ++ k)
+unfolding put
+put-spliced c k b = elim (decLe c (length b)) [
+  | yes h ↦ rw (sub-eq-zero-of-le h, append-nil, min-eq-left h)
+  | no h ↦
+      let g : length b ≤ c = omega arith in
+      let s : List ℕ = b ++ replicate (c - length b) 32 in
+      let l : length s ≤ c = omega (arith, length-append b (replicate (c - length b) 32), length-replicate {A = ℕ} (c - length b) 32) in
+      rw (take-all c s l, drop-of-length-le s {i = c} l, min-eq-right g, take-length b, drop-length b) (simp (append-assoc, append-nil))
+]
+
+plain-spaces : (n : ℕ) → Plain (replicate n 32)
+unfolding all
+plain-spaces zero = tt
+plain-spaces (suc n) = plain-spaces n
+
+pub row-there : (t : List ℕ) (r k n : ℕ) → k < n → n ≤ rowCount isLF t - r → r + k ≤ lastRow isLF t
+row-there t r k n h l = omega (arith, count-last isLF t)
+
+-- where a chunk goes in
+module _ (t : List ℕ) (p : Position) (f : Place) (e : f ≡ place isLF t p) where
+  pub col-within : f .pos .col .0 ≤ p .col .0
+  unfolding clamp
+  col-within = rw e (omega arith)
+
+  pub put-found : p .row .0 ≤ lastRow isLF t → record { at = f .at; pad = p .col .0 - f .pos .col .0 } ≡ putAt t p
+  unfolding clamp
+  put-found h =
+      let m : min (p .row .0) (lastRow isLF t) ≡ p .row .0 = omega arith in
+      let n : p .col .0 - min (p .col .0) (rowLen isLF t (p .row .0)) ≡ p .col .0 - rowLen isLF t (p .row .0) = omega arith in
+      rw (e, m, n)
+
+-- ---- a chunk put in, and the rest
+
+module _ (t : List ℕ) (r c n : ℕ) (ns x : List ℕ) (h : r ≤ lastRow isLF t) (p : Plain (take n x)) (u : List ℕ)
+    (q : u ≡ spliced t (offset isLF t (at r c)) (offset isLF t (at r c)) (replicate (padAt t r c) 32 ++ take n x)) where
+  abbrev m : ℕ
+  m = min c (rowLen isLF t r)
+
+  abbrev g : List ℕ
+  g = replicate (padAt t r c) 32 ++ take n x
+
+  turned : Turned t r m m g u
+  turned = rw (← offset-row isLF t r c h) q
+
+  plain : Plain g
+  plain = all-append notLF (replicate (padAt t r c) 32) (take n x) (plain-spaces (padAt t r c)) p
+
+  new-row : line (put 32 c (take n x) (rowOf t r .body)) (rowOf t r .after) ≡ newRow t r m m g
+  unfolding rowLen
+  new-row = rw (put-spliced c (take n x) (rowOf t r .body))
+
+  pub put-text : inserted u (suc r) c (drop n x) ns .text ≡ inserted t r c x (n ∷ ns) .text
+  unfolding blockInserted pieces putAll
+  put-text =
+      rw (from-turned t r m m g h (omega arith) (omega arith) plain u turned (putAll 32 c (pieces ns (drop n x)) (drop (suc r) (lines isLF u))), below-turned t r m m g h (omega arith) (omega arith) plain u turned, row-from t r h, new-row)
+
+  pub put-pads : inserted t r c x (n ∷ ns) .inverse .second ≡ padAt t r c ∷ inserted u (suc r) c (drop n x) ns .inverse .second
+  unfolding blockInserted pieces padsOf rowLen
+  put-pads = rw (below-turned t r m m g h (omega arith) (omega arith) plain u turned, row-from t r h)
+
+  pub put-count : rowCount isLF u ≡ rowCount isLF t
+  put-count = count-turned t r m m g h (omega arith) (omega arith) plain u turned
+
+-- ---- sizes
+
+pieces-length : (ns x : List ℕ) → length (pieces ns x) ≡ length ns
+unfolding pieces
+pieces-length [] x = refl
+pieces-length (n ∷ ns) x = ap suc (pieces-length ns (drop n x))
+
+pub pads-length : (t : List ℕ) (r c : ℕ) (x ns : List ℕ) → length (inserted t r c x ns .inverse .second) ≡ length ns
+unfolding blockInserted
+pads-length t r c x ns = padsOf-length c (pieces ns x) (drop r (lines isLF t)) ∙ pieces-length ns x
+
+-- how many characters come into these rows
+unfoldable pub growth : ℕ → List ℕ → List (Line ℕ) → ℕ
+growth c [] rs = 0
+growth c (n ∷ ns) [] = 0
+growth c (n ∷ ns) (r ∷ rs) = (c - length (r .body)) + n + growth c ns rs
+
+put-length : (c : ℕ) (k b : List ℕ) → length (put 32 c k b) ≡ length b + ((c - length b) + length k)
+put-length c k b =
+    let m = min c (length b) in
+    let g = replicate (c - length b) 32 ++ k in
+    ap length (put-spliced c k b) ∙ omega (arith, length-append (take m b) (g ++ drop m b), length-append g (drop m b), length-take m b, length-drop m b, length-append (replicate (c - length b) 32) k, length-replicate {A = ℕ} (c - length b) 32)
+
+putAll-length : (c : ℕ) (ns x : List ℕ) (rs : List (Line ℕ)) → sum ns ≤ length x → length (unlines (putAll 32 c (pieces ns x) rs)) ≡ length (unlines rs) + growth c ns rs
+unfolding putAll pieces growth unlines sum
+putAll-length c [] x rs h = omega arith
+putAll-length c (n ∷ ns) x [] h = omega arith
+putAll-length c (n ∷ ns) x (r ∷ rs) h =
+    let k = take n x in
+    let b = put 32 c k (r .body) in
+    let R = unlines (putAll 32 c (pieces ns (drop n x)) rs) in
+    omega (arith, putAll-length c ns (drop n x) rs (omega (arith, length-drop n x)), put-length c k (r .body), length-take n x, length-append b (r .after ++ R), length-append (r .after) R, length-append (r .body) (r .after ++ unlines rs), length-append (r .after) (unlines rs))
+
+pub inserted-length : (t : List ℕ) (r c : ℕ) (x ns : List ℕ) → sum ns ≤ length x → length (inserted t r c x ns .text) ≡ length t + growth c ns (drop r (lines isLF t))
+unfolding blockInserted
+inserted-length t r c x ns h =
+    let L = lines isLF t in
+    let S = putAll 32 c (pieces ns x) (drop r L) in
+    let w : length t ≡ length (unlines (take r L)) + length (unlines (drop r L)) =
+    ap length (sym (unlines-lines isLF t) ∙ ap unlines (sym (take-append-drop r L)) ∙ unlines-append (take r L) (drop r L)) ∙ length-append (unlines (take r L)) (unlines (drop r L)) in
+    omega (arith, ap length (unlines-append (take r L) S), length-append (unlines (take r L)) (unlines S), putAll-length c ns x (drop r L) h, w)
+
+-- the next row's share
+pub growth-next : (t : List ℕ) (r c k : ℕ) (ns : List ℕ) → k < length ns → r + k ≤ lastRow isLF t
+    → growth c (drop k ns) (drop (r + k) (lines isLF t)) ≡ padAt t (r + k) c + getD ns k 0 + growth c (drop (k + 1) ns) (drop (r + (k + 1)) (lines isLF t))
+unfolding growth rowLen
+growth-next t r c k ns h l =
+    let e : r + (k + 1) ≡ suc (r + k) = omega arith in
+    rw (next ns k h, row-from t (r + k) l, e)
+
+pub growth-end : (c k : ℕ) (ns : List ℕ) (rs : List (Line ℕ)) → length ns ≤ k → growth c (drop k ns) rs ≡ 0
+unfolding growth
+growth-end c k ns rs h = rw (drop-of-length-le ns h)

@@ -1,0 +1,29 @@
+-- What the parts of a block insert find and leave.
+use mathlib.Core.List.{List}
+use Prim.Native.Nat.{ℕ, _-_}
+use lib.ListN.{take}
+use Rattle.promise.specs.Slices.{over}
+use Rattle.text.specs.declared.Position.{Position}
+use Rattle.text.specs.Rows.{charAt, rowLen, offset}
+use Rattle.text.specs.Text.{isLF, renewed}
+use Rattle.edit.specs.Edits.{Edited, blockInserted}
+use Rattle.edit.specs.Refusals.{isSpace, spaces}
+use Rattle.blocks.specs.declared.Put.{Put}
+
+-- put_splice: where a chunk goes into a row of the text, and how many spaces come before it
+abbrev pub putAt : List ℕ → Position → Put
+putAt t p = record { at = charAt (offset isLF t p); pad = p .col .0 - rowLen isLF t (p .row .0) }
+
+-- put_rows: the two slices that it writes
+pub record Left : Type 0 where
+  pub text : List ℕ
+  pub pads : List ℕ
+
+abbrev pub left : List ℕ → List ℕ → Left
+left t q = record { text = t; pads = q }
+
+abbrev pub putFrom : List ℕ → ℕ → Position → List ℕ → List ℕ → Edited ℕ
+putFrom b used p x ns = blockInserted isLF isSpace spaces (take used b) p x ns
+
+abbrev pub leftBy : Edited ℕ → List ℕ → ℕ → List ℕ → Left
+leftBy d b used q = left (renewed b used (d .text)) (over (d .inverse .second) q)

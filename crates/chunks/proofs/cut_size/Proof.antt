@@ -1,0 +1,89 @@
+use Rattle.chunks.proofs.Cuts.{Sizing, sizing-none, sizing-next, sizing-bounds, sizing-done, cut-order}
+use Prim.Native.Nat.{_-_}
+use lib.ListN.{length}
+use Rattle.blocks.proofs.Puts.{row-there}
+use native.Mathlib.Omega.{arith}
+use borrow.Author.Needs.{needs}
+use Rattle.chunks.proofs.cut_size.Statement.{statement}
+use Rattle.chunks.proofs.cut_size.Tie as tie
+use Rattle.chunks.proofs.cut_size.Reads as reads
+use Rattle.chunks.proofs.cut_size.Lts as lts
+use Rattle.chunks.proofs.cut_splice.Reads as cut-splice-reads
+use Rattle.chunks.proofs.pad_at.Reads as pad-at-reads
+
+abbrev Inv-loop : tie.InvT-loop
+Inv-loop text widths pads row col gone₀ payload₀ k₀ gone payload k = Sizing text row (col .0) widths pads gone payload k
+
+abbrev μ-loop : tie.MeasureT-loop
+μ-loop text widths pads row col gone₀ payload₀ k₀ gone payload k = length widths - k
+
+loop-holds : tie.Need-loop-holds Inv-loop μ-loop
+loop-holds c = let a = c .before .before .before .before .args in sizing-none (a .text .now) (a .at .row .0) (a .at .col .0) (a .widths .now) (a .pads .now)
+
+cast-cut-splice : tie.Need-cast-cut-splice Inv-loop μ-loop
+cast-cut-splice c = search needs
+
+add-cut-splice : tie.Need-add-cut-splice Inv-loop μ-loop
+add-cut-splice c = search needs
+
+mul-cut-splice : tie.Need-mul-cut-splice Inv-loop μ-loop
+mul-cut-splice c = search needs
+
+shared-slice-read-cut-splice : tie.Need-shared-slice-read-cut-splice Inv-loop μ-loop
+shared-slice-read-cut-splice c = search needs
+
+pad-at-requires : tie.Need-pad-at-requires Inv-loop μ-loop
+pad-at-requires c κs = search needs
+
+cut-splice-requires : tie.Need-cut-splice-requires Inv-loop μ-loop
+cut-splice-requires c κs = let a = c .before .before .before .before .before .before .before .before .args in (c .before .before .before .before .before .before .before .before .pre .0, row-there (a .text .now) (a .at .row .0) (c .before .before .before .loop .k) (length (a .widths .now)) (c .before .before .loop-test .taken) (c .before .before .before .before .before .before .before .before .pre .3))
+
+sub-gone : tie.Need-sub-gone Inv-loop μ-loop
+sub-gone c = let q = cut-order (c .before .before .before .before .before .loop .inv) (c .before .before .before .before .loop-test .taken) (c .before .before .before .before .before .before .before .before .before .before .pre .3) (c .before .before .pad-at .result) (c .before .before .pad-at .ensures) (c .before .cut-splice .result) (c .before .cut-splice .ensures) in omega (arith, q .0, q .1)
+
+add-gone : tie.Need-add-gone Inv-loop μ-loop
+add-gone c = let q = sizing-bounds (sizing-next (c .before .before .before .before .before .loop .inv) (c .before .before .before .before .loop-test .taken) (c .before .before .before .before .before .before .before .before .before .before .pre .3) (c .before .before .pad-at .result) (c .before .before .pad-at .ensures) (c .before .cut-splice .result) (c .before .cut-splice .ensures)) in omega (arith, q .0, q .1, c .before .before .before .before .before .before .before .before .before .before .pre .0)
+
+sub-payload : tie.Need-sub-payload Inv-loop μ-loop
+sub-payload c = cut-order (c .before .before .before .before .before .before .loop .inv) (c .before .before .before .before .before .loop-test .taken) (c .before .before .before .before .before .before .before .before .before .before .before .pre .3) (c .before .before .before .pad-at .result) (c .before .before .before .pad-at .ensures) (c .before .before .cut-splice .result) (c .before .before .cut-splice .ensures) .1
+
+add-payload : tie.Need-add-payload Inv-loop μ-loop
+add-payload c = let q = sizing-bounds (sizing-next (c .before .before .before .before .before .before .loop .inv) (c .before .before .before .before .before .loop-test .taken) (c .before .before .before .before .before .before .before .before .before .before .before .pre .3) (c .before .before .before .pad-at .result) (c .before .before .before .pad-at .ensures) (c .before .before .cut-splice .result) (c .before .before .cut-splice .ensures)) in omega (arith, q .0, q .1, c .before .before .before .before .before .before .before .before .before .before .before .pre .0)
+
+add-k : tie.Need-add-k Inv-loop μ-loop
+add-k c = search needs
+
+loop-less : tie.Need-loop-less Inv-loop μ-loop
+loop-less c = search needs
+
+loop-again : tie.Need-loop-again Inv-loop μ-loop
+loop-again c = sizing-next (c .before .before .before .before .before .before .loop .inv) (c .before .before .before .before .before .loop-test .taken) (c .before .before .before .before .before .before .before .before .before .before .before .pre .3) (c .before .before .before .pad-at .result) (c .before .before .before .pad-at .ensures) (c .before .before .cut-splice .result) (c .before .before .cut-splice .ensures)
+
+sub-t19 : tie.Need-sub-t19 Inv-loop μ-loop
+sub-t19 c = sizing-bounds (c .before .loop .inv) .0
+
+returns : tie.Need-returns Inv-loop μ-loop
+returns c = sizing-done (c .before .loop .inv) (omega arith)
+
+pub cut-size-spec : {M : Type 1} → statement M
+cut-size-spec =
+    tie.close
+    (tie.spec
+    Inv-loop
+    μ-loop
+    loop-holds
+    cast-cut-splice
+    add-cut-splice
+    mul-cut-splice
+    shared-slice-read-cut-splice
+    pad-at-requires
+    cut-splice-requires
+    sub-gone
+    add-gone
+    sub-payload
+    add-payload
+    add-k
+    loop-less
+    loop-again
+    sub-t19
+    returns)
