@@ -107,6 +107,24 @@ joinFlags-small b r [] = tt
 joinFlags-small b r (s ∷ rs) =
     T-both (small (length (gap 32 b (r .body) (s .body)))) (all small (joinFlags 32 b (joinNext 32 b r s) rs)) (gap-small b (r .body) (s .body)) (joinFlags-small b (joinNext 32 b r s) rs)
 
+-- ---- a join more at the end
+
+module _ (b : Bool) (y : Line ℕ) where
+  pub joinRow-snoc : (r : Line ℕ) (rs : List (Line ℕ)) → joinRow 32 b r (rs ++ (y ∷ [])) ≡ joinNext 32 b (joinRow 32 b r rs) y
+  unfolding joinRow
+  joinRow-snoc r [] = refl
+  joinRow-snoc r (s ∷ rs) = joinRow-snoc (joinNext 32 b r s) rs
+
+  pub joinCols-snoc : (r : Line ℕ) (rs : List (Line ℕ)) → joinCols 32 b r (rs ++ (y ∷ [])) ≡ joinCols 32 b r rs ++ (length (joinRow 32 b r rs .body) ∷ [])
+  unfolding joinRow joinCols
+  joinCols-snoc r [] = refl
+  joinCols-snoc r (s ∷ rs) = ap (_∷_ (length (r .body))) (joinCols-snoc (joinNext 32 b r s) rs)
+
+  pub joinFlags-snoc : (r : Line ℕ) (rs : List (Line ℕ)) → joinFlags 32 b r (rs ++ (y ∷ [])) ≡ joinFlags 32 b r rs ++ (length (gap 32 b (joinRow 32 b r rs .body) (y .body)) ∷ [])
+  unfolding joinRow joinFlags
+  joinFlags-snoc r [] = refl
+  joinFlags-snoc r (s ∷ rs) = ap (_∷_ (length (gap 32 b (r .body) (s .body)))) (joinFlags-snoc (joinNext 32 b r s) rs)
+
 -- ---- characters
 
 module _ (f : ℕ → Bool) (space : T (f 32)) where
@@ -147,7 +165,7 @@ next-ended : (b : Bool) {x s : Line ℕ} {B : List (Line ℕ)} → Ended (x ∷ 
 next-ended b (ended c p (final d q)) = final (c ++ (gap 32 b c d ++ d)) (next-all notLF tt b c d p q)
 next-ended b (ended c p (ended d q h)) = ended (c ++ (gap 32 b c d ++ d)) (next-all notLF tt b c d p q) h
 
-join-ended : (b : Bool) (m : ℕ) (x : Line ℕ) (B : List (Line ℕ)) → Ended (x ∷ B) → Ended (joinRow 32 b x (take m B) ∷ drop m B)
+pub join-ended : (b : Bool) (m : ℕ) (x : Line ℕ) (B : List (Line ℕ)) → Ended (x ∷ B) → Ended (joinRow 32 b x (take m B) ∷ drop m B)
 unfolding joinRow
 join-ended b zero x B h = h
 join-ended b (suc m) x [] h = h

@@ -1,13 +1,14 @@
 -- The call in two halves, as code goes about it: rows 1 to 4 are judged first, and a worker does the rest.
-use mathlib.Core.Path.{_≡_, refl, sym}
+use mathlib.Core.Path.{_≡_, refl, sym, ap, _∙_}
 use mathlib.Core.Bool.{Bool, true, false}
 use mathlib.Core.List.{List, [], _∷_, _++_}
 use Prim.Native.Nat.{ℕ, _-_, _≤_}
 use lib.Dec.{T, leb, leb→le}
 use lib.ListN.{length, take, drop}
 use Rattle.promise.specs.Paper.{Paper, done, refused}
+use Rattle.promise.specs.Slices.{over}
 use Rattle.promise.proofs.Bools.{T-true, T-left, T-right}
-use Rattle.text.specs.Text.{textOk}
+use Rattle.text.specs.Text.{textOk, renewed}
 use Rattle.text.proofs.Texts.{front, text-true}
 use Rattle.edit.specs.declared.View.{View}
 use Rattle.edit.specs.declared.Edit.{Edit}
@@ -15,6 +16,7 @@ use Rattle.edit.specs.declared.Refusal.{Refusal}
 use Rattle.edit.specs.declared.Verdict.{Verdict}
 use Rattle.edit.specs.declared.Verdict.the-variants.{Fine, Bad}
 use Rattle.edit.specs.declared.Room.{Room}
+use Rattle.edit.specs.declared.Applied.{Applied}
 use Rattle.edit.specs.Edits.{Edited}
 use Rattle.edit.specs.Refusals.{short, smallOk, fewOk, payloadOk, withinOk, roomOk, recordOk}
 use Rattle.edit.specs.Call.{numberOf, offsetOf, paperVerdict, firstOf, verdictOf, Lent, outcome, textOf, resultOf, roomOf, givenTests, resultTests, appliedAs, leaves, finished, applied, isUndoable, undoable}
@@ -96,6 +98,25 @@ fits within R d h =
         second = f .2;
       },
     )
+
+-- ---- a worker's answer, from the verdict on its plan and from what it stored
+
+module _ (within : Bool) (room : Room) (d : Edited ℕ) (v : Verdict) (h : paperVerdict v ≡ verdictOf (resultTests within room d)) where
+  pub worked-fits : v ≡ Fine → Fits room d
+  worked-fits e = fits within room d (ap paperVerdict (sym e) ∙ h) .1
+
+  module _ (view : View) (l : Lent) (r : roomOf l ≡ room) where
+    pub worked-refused : (why : Refusal) → v ≡ Bad why → outcome (refused (numberOf why) (offsetOf why)) (l .buffer) (l .outPayload) (l .outFirst) (l .outSecond) ≡ finished within view l d
+    worked-refused why e = finished-refused within view l d (numberOf why) (offsetOf why) (rw r (ap paperVerdict (sym e) ∙ h))
+
+    pub worked-leaves : v ≡ Fine → leaves (done (appliedAs view d)) view l d ≡ finished within view l d
+    worked-leaves e = finished-done within view l d (rw r (ap paperVerdict (sym e) ∙ h))
+
+    -- the same from what the worker has and leaves, part by part
+    pub worked-done : v ≡ Fine → (a : Applied) (t p f s : List ℕ) → a ≡ appliedAs view d → t ≡ renewed (l .buffer) (view .used) (d .text) → p ≡ over (d .inverse .payload) (l .outPayload)
+        → f ≡ over (d .inverse .first) (l .outFirst) → s ≡ over (d .inverse .second) (l .outSecond) → outcome (done a) t p f s ≡ finished within view l d
+    unfolding leaves
+    worked-done e a t p f s ea et ep ef es = rw (ea, et, ep, ef, es) (worked-leaves e)
 
 -- what a worker is handed, once rows 1 to 4 have not refused
 pub record Passed (v : View) (e : Edit) (l : Lent) : Type 0 where

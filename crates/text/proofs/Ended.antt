@@ -2,12 +2,12 @@
 use mathlib.Core.Path.{_≡_, refl, _∙_, ap}
 use mathlib.Core.Bool.{Bool, true, false, cond, not}
 use mathlib.Core.List.{List, [], _∷_, _++_, append-nil, append-assoc}
-use Prim.Native.Nat.{ℕ, _<_}
+use Prim.Native.Nat.{ℕ, zero, suc, _<_}
 use native.Mathlib.Omega.{arith}
 use borrow.Author.Tests.{eqb-true}
 use lib.Dec.{T}
-use lib.ListN.{length, length-append}
-use Rattle.text.specs.Rows.{Line, line, onto, lines, unlines}
+use lib.ListN.{length, drop, getD, length-append}
+use Rattle.text.specs.Rows.{Line, line, onto, lines, unlines, rowLen}
 use Rattle.text.specs.Text.{isLF, all}
 use Rattle.promise.proofs.Bools.{T-left, T-right}
 
@@ -68,3 +68,24 @@ ended-change [] x B new h k = k
 ended-change (a ∷ A) x B new h k =
     let l : 0 < length (A ++ x ∷ B) = omega (arith, length-append A (x ∷ B)) in
     ended-below h l .1 (A ++ new) (ended-change A x B new (ended-below h l .0) k)
+
+-- what ends each row
+pub ended-lf : {z y : Line ℕ} {C : List (Line ℕ)} → Ended (z ∷ y ∷ C) → (z .after ≡ 10 ∷ []) × Ended (y ∷ C)
+ended-lf (ended b p h) = (refl, h)
+
+pub ended-at : (k : ℕ) {x : Line ℕ} {B : List (Line ℕ)} → Ended (x ∷ B) → k < length B → (getD (x ∷ B) k (line [] []) .after ≡ 10 ∷ []) × Ended (drop k B)
+ended-at zero (final b p) l = absurd (omega arith)
+ended-at zero (ended b p h) l = (refl, h)
+ended-at (suc k) (final b p) l = absurd (omega arith)
+ended-at (suc k) (ended b p (final c q)) l = absurd (omega arith)
+ended-at (suc k) (ended b p (ended c q h)) l = ended-at k (ended c q h) (omega arith)
+
+pub ended-last : {x : Line ℕ} {B : List (Line ℕ)} → Ended (x ∷ B) → getD (x ∷ B) (length B) (line [] []) .after ≡ []
+ended-last (final b p) = refl
+ended-last (ended b p (final c q)) = refl
+ended-last (ended b p (ended c q h)) = ended-last (ended c q h)
+
+-- the first row of such rows
+pub first-len : {y : Line ℕ} {C : List (Line ℕ)} → Ended (y ∷ C) → rowLen isLF (unlines (y ∷ C)) 0 ≡ length (y .body)
+unfolding rowLen
+first-len h = rw (lines-unlines h)

@@ -1,11 +1,11 @@
 -- A scan that counts rows: what it knows at index i, in the row `above`, which starts at `start`.
-use mathlib.Core.Path.{_≡_, _∙_, ap}
+use mathlib.Core.Path.{_≡_, sym, _∙_, ap}
 use mathlib.Core.List.{List}
 use Prim.Native.Nat.{ℕ, suc, _+_, _-_, _≤_, _<_, min}
 use native.Mathlib.Nat.{zero-add}
 use native.Mathlib.Omega.{arith}
 use borrow.Author.Tests.{eq-eqb, ne-eqb}
-use lib.ListN.{length, drop, getD}
+use lib.ListN.{length, take, drop, getD}
 use Rattle.promise.proofs.Lists.{next}
 use Rattle.text.specs.declared.Position.{Position}
 use Rattle.text.specs.declared.Span.{Span}
@@ -13,6 +13,7 @@ use Rattle.text.specs.Rows.{lastRow, rowLen, rowStart, span, charAt, at,
 use Rattle.text.specs.Text.{isLF}
 use Rattle.text.proofs.Laws.{start-first, start-lf, start-other, len-lf-next, len-other-next}
 use Rattle.text.proofs.Spots.{row-within}
+use Rattle.text.proofs.Texts.{front}
 use Rattle.text.proofs.Scans.{last-at-lf, last-at-other, last-at-end, len-at-lf, len-at-other, len-at-end}
 
 pub record Walk (t : List ℕ) (i above start : ℕ) : Type 0 where
@@ -91,3 +92,24 @@ placed t p f c e q =
     let r : ℕ = min (p .row .0) (lastRow isLF t) in
     let m : rowStart isLF t r + rowLen isLF t r - rowStart isLF t r ≡ rowLen isLF t r = omega arith in
     rw (q, e, m)
+
+pub span-parts : (t : List ℕ) (f : Span) → f ≡ span isLF t (f .row .0)
+    → (f .row .0 ≤ lastRow isLF t) × (f .start .0 ≡ rowStart isLF t (f .row .0)) × (f .end .0 ≡ rowStart isLF t (f .row .0) + rowLen isLF t (f .row .0))
+unfolding span
+span-parts t f e =
+    let m : f .row .0 ≡ min (f .row .0) (lastRow isLF t) = ap (λ (g : Span). g .row .0) e in
+    let l : f .row .0 ≤ lastRow isLF t = omega arith in
+    (l, ap (λ (g : Span). g .start .0) e ∙ rw (← m), ap (λ (g : Span). g .end .0) e ∙ rw (← m))
+
+-- a row that was found, in a text as it is lent, is the row of its own number
+module _ (text : List ℕ) (used n : ℕ) (f : Span) (e : f ≡ span isLF (take (used - 0) (drop 0 text)) n) where
+  pub found-row : f .row .0 ≡ min n (lastRow isLF (take used text))
+  unfolding span
+  found-row = ap (λ (g : Span). g .row .0) e ∙ rw (front text used)
+
+  same-span : span isLF (take used text) n ≡ span isLF (take used text) (min n (lastRow isLF (take used text)))
+  unfolding span
+  same-span = let k : min (min n (lastRow isLF (take used text))) (lastRow isLF (take used text)) ≡ min n (lastRow isLF (take used text)) = omega arith in rw k
+
+  pub found-again : f ≡ span isLF (take used text) (f .row .0)
+  found-again = e ∙ ap (λ (t : List ℕ). span isLF t n) (front text used) ∙ same-span ∙ ap (span isLF (take used text)) (sym found-row)

@@ -7,7 +7,7 @@ use Rattle.promise.specs.Slices.{over}
 use Rattle.edit.specs.Call.{planOf, lent}
 use Rattle.blocks.specs.Blocks.{putFrom}
 use Rattle.blocks.proofs.Reached.{plan-found, room-found, rows-asked, text-found, applied-found, pads-found, widths-found, payload-none}
-use Rattle.plan.proofs.Work.{work-fits, work-refused, work-left}
+use Rattle.edit.proofs.Workers.{worked-fits, worked-refused, worked-done}
 use native.Mathlib.Omega.{arith}
 use borrow.Author.Needs.{needs}
 use Rattle.blocks.proofs.insert_block.Statement.{statement}
@@ -31,7 +31,7 @@ planned c = let a = c .before .before .before .before .before .before .before .b
 roomy : (c : tie.After-enum-told) → (c .before .before .before .put-size .result ≤ length (c .before .before .before .before .before .before .before .before .before .before .before .before .before .before .before .args .text .now)) × (c .before .before .before .put-size .result ≤ 16_384) × (length (c .before .before .before .before .before .before .before .before .before .before .before .before .before .before .before .args .lens .now) ≤ length (c .before .before .before .before .before .before .before .before .before .before .before .before .before .before .before .args .widths .now)) × (length (c .before .before .before .before .before .before .before .before .before .before .before .before .before .before .before .args .lens .now) ≤ length (c .before .before .before .before .before .before .before .before .before .before .before .before .before .before .before .args .pads .now))
 roomy c = let a = c .before .before .before .before .before .before .before .before .before .before .before .before .before .before .before .args in let p = c .before .before .before .before .before .before .before .before .before .before .before .before .before .before .before .pre in
     room-found (a .text .now) (a .view .used) (a .at) (a .payload .now) (a .lens .now) (c .before .before .before .before .before .before .before .rows-from .result) (c .before .before .before .put-size .result) (c .before .before .before .before .before .before .before .rows-from .ensures) (p .4) (c .before .before .before .put-size .ensures) (a .room)
-    (work-fits true (a .room) _ (c .before .before .judge .result) (c .before .before .judge .ensures) (putFrom (a .text .now) (a .view .used) (a .at) (a .payload .now) (a .lens .now)) (planned (c .before .before)) (c .enum-told .given .1) .1) (a .widths .now) (a .pads .now) (p .6) (p .7) (p .8)
+    (worked-fits true (a .room) (putFrom (a .text .now) (a .view .used) (a .at) (a .payload .now) (a .lens .now)) (c .before .before .judge .result) (c .before .before .judge .ensures (putFrom (a .text .now) (a .view .used) (a .at) (a .payload .now) (a .lens .now)) (planned (c .before .before))) (c .enum-told .given .1)) (a .widths .now) (a .pads .now) (p .6) (p .7) (p .8)
 
 sub-rows-from : tie.Need-sub-rows-from
 sub-rows-from c = search needs
@@ -76,7 +76,7 @@ same-length : tie.Need-same-length
 same-length c = search needs
 
 returns : tie.Need-returns
-returns c = let a = c .before .before .before .before .before .before .before .before .before .before .before .before .before .before .before .before .args in λ x f s op e. work-refused true (a .room) _ (c .before .before .before .judge .result) (c .before .before .before .judge .ensures) (putFrom (a .text .now) (a .view .used) (a .at) (a .payload .now) (a .lens .now)) (planned (c .before .before .before)) (a .view) (lent (a .text .now) x f s op (a .widths .now) (a .pads .now)) e _ (c .before .verdict .given .1)
+returns c = let a = c .before .before .before .before .before .before .before .before .before .before .before .before .before .before .before .before .args in λ x f s op e. worked-refused true (a .room) (putFrom (a .text .now) (a .view .used) (a .at) (a .payload .now) (a .lens .now)) (c .before .before .before .judge .result) (c .before .before .before .judge .ensures (putFrom (a .text .now) (a .view .used) (a .at) (a .payload .now) (a .lens .now)) (planned (c .before .before .before))) (a .view) (lent (a .text .now) x f s op (a .widths .now) (a .pads .now)) e _ (c .before .verdict .given .1)
 
 enum-told : tie.Need-enum-told
 enum-told c = search needs
@@ -127,7 +127,7 @@ same-length-4 : tie.Need-same-length-4
 same-length-4 c = search needs
 
 returns-2 : tie.Need-returns-2
-returns-2 c = let a = c .before .before .before .before .before .before .before .before .before .before .before .before .before .before .before .before .before .before .before .before .before .before .before .before .before .before .before .before .before .before .before .before .before .before .before .args in λ x f s op e. work-left true (a .room) _ (c .before .before .before .before .before .before .before .before .before .before .before .before .before .before .before .before .before .before .before .before .before .before .judge .result) (c .before .before .before .before .before .before .before .before .before .before .before .before .before .before .before .before .before .before .before .before .before .before .judge .ensures) (putFrom (a .text .now) (a .view .used) (a .at) (a .payload .now) (a .lens .now)) (planned (c .before .before .before .before .before .before .before .before .before .before .before .before .before .before .before .before .before .before .before .before .before .before)) (a .view) (lent (a .text .now) x f s op (a .widths .now) (a .pads .now)) e (c .before .before .before .before .before .before .before .before .before .before .before .before .before .before .before .before .before .before .before .before .enum-told .given .1) _ _ _ _ _ (applied-found (a .text .now) (a .view .used) (a .at) (a .payload .now) (a .lens .now) (c .before .before .before .before .before .before .before .before .before .before .before .before .before .before .before .before .before .before .before .before .before .before .before .before .before .before .before .rows-from .result) (c .before .before .before .before .before .before .before .before .before .before .before .before .before .before .before .before .before .before .before .before .before .before .before .put-size .result) (c .before .before .before .before .before .before .before .before .before .before .before .before .before .before .before .before .before .before .before .before .before .before .before .before .before .before .before .rows-from .ensures) (c .before .before .before .before .before .before .before .before .before .before .before .before .before .before .before .before .before .before .before .before .before .before .before .before .before .before .before .before .before .before .before .before .before .before .before .pre .4) (c .before .before .before .before .before .before .before .before .before .before .before .before .before .before .before .before .before .before .before .before .before .before .before .put-size .ensures) (c .before .before .before .before .before .before .before .before .before .before .before .before .before .before .before .before .put-rows .last .0) (a .pads .now) (c .before .before .before .before .before .before .before .before .before .before .before .before .before .before .before .before .put-rows .last .1 .1 .1 .1 .1 .0) (c .before .before .before .before .before .before .before .before .before .before .fill .last .0) (c .before .before .before .before .before .before .before .before .before .before .before .before .before .before .before .before .put-rows .ensures) (a .view) _ _ (c .before .clamp .ensures) (c .next-view .ensures)) (text-found (a .text .now) (a .view .used) (a .at) (a .payload .now) (a .lens .now) (c .before .before .before .before .before .before .before .before .before .before .before .before .before .before .before .before .before .before .before .before .before .before .before .before .before .before .before .rows-from .result) (c .before .before .before .before .before .before .before .before .before .before .before .before .before .before .before .before .before .before .before .before .before .before .before .put-size .result) (c .before .before .before .before .before .before .before .before .before .before .before .before .before .before .before .before .before .before .before .before .before .before .before .before .before .before .before .rows-from .ensures) (c .before .before .before .before .before .before .before .before .before .before .before .before .before .before .before .before .before .before .before .before .before .before .before .before .before .before .before .before .before .before .before .before .before .before .before .pre .4) (c .before .before .before .before .before .before .before .before .before .before .before .before .before .before .before .before .before .before .before .before .before .before .before .put-size .ensures) (c .before .before .before .before .before .before .before .before .before .before .before .before .before .before .before .before .put-rows .last .0) (a .pads .now) (c .before .before .before .before .before .before .before .before .before .before .before .before .before .before .before .before .put-rows .last .1 .1 .1 .1 .1 .0) (c .before .before .before .before .before .before .before .before .before .before .fill .last .0) (c .before .before .before .before .before .before .before .before .before .before .before .before .before .before .before .before .put-rows .ensures)) (sym (ap (λ (y : List ℕ). over y op) (payload-none (take (a .view .used) (a .text .now)) (a .at) (a .payload .now) (a .lens .now)))) (c .before .before .before .before .before .before .copy-in .ensures ∙ widths-found (take (a .view .used) (a .text .now)) (a .at) (a .payload .now) (a .lens .now) (a .widths .now)) (pads-found (a .text .now) (a .view .used) (a .at) (a .payload .now) (a .lens .now) (c .before .before .before .before .before .before .before .before .before .before .before .before .before .before .before .before .before .before .before .before .before .before .before .before .before .before .before .rows-from .result) (c .before .before .before .before .before .before .before .before .before .before .before .before .before .before .before .before .before .before .before .before .before .before .before .put-size .result) (c .before .before .before .before .before .before .before .before .before .before .before .before .before .before .before .before .before .before .before .before .before .before .before .before .before .before .before .rows-from .ensures) (c .before .before .before .before .before .before .before .before .before .before .before .before .before .before .before .before .before .before .before .before .before .before .before .before .before .before .before .before .before .before .before .before .before .before .before .pre .4) (c .before .before .before .before .before .before .before .before .before .before .before .before .before .before .before .before .before .before .before .before .before .before .before .put-size .ensures) (c .before .before .before .before .before .before .before .before .before .before .before .before .before .before .before .before .put-rows .last .0) (a .pads .now) (c .before .before .before .before .before .before .before .before .before .before .before .before .before .before .before .before .put-rows .last .1 .1 .1 .1 .1 .0) (c .before .before .before .before .before .before .before .before .before .before .fill .last .0) (c .before .before .before .before .before .before .before .before .before .before .before .before .before .before .before .before .put-rows .ensures) (c .before .before .before .before .before .before .before .before .before .before .fill .ensures))
+returns-2 c = let a = c .before .before .before .before .before .before .before .before .before .before .before .before .before .before .before .before .before .before .before .before .before .before .before .before .before .before .before .before .before .before .before .before .before .before .before .args in λ x f s op e. worked-done true (a .room) (putFrom (a .text .now) (a .view .used) (a .at) (a .payload .now) (a .lens .now)) (c .before .before .before .before .before .before .before .before .before .before .before .before .before .before .before .before .before .before .before .before .before .before .judge .result) (c .before .before .before .before .before .before .before .before .before .before .before .before .before .before .before .before .before .before .before .before .before .before .judge .ensures (putFrom (a .text .now) (a .view .used) (a .at) (a .payload .now) (a .lens .now)) (planned (c .before .before .before .before .before .before .before .before .before .before .before .before .before .before .before .before .before .before .before .before .before .before))) (a .view) (lent (a .text .now) x f s op (a .widths .now) (a .pads .now)) e (c .before .before .before .before .before .before .before .before .before .before .before .before .before .before .before .before .before .before .before .before .enum-told .given .1) _ _ _ _ _ (applied-found (a .text .now) (a .view .used) (a .at) (a .payload .now) (a .lens .now) (c .before .before .before .before .before .before .before .before .before .before .before .before .before .before .before .before .before .before .before .before .before .before .before .before .before .before .before .rows-from .result) (c .before .before .before .before .before .before .before .before .before .before .before .before .before .before .before .before .before .before .before .before .before .before .before .put-size .result) (c .before .before .before .before .before .before .before .before .before .before .before .before .before .before .before .before .before .before .before .before .before .before .before .before .before .before .before .rows-from .ensures) (c .before .before .before .before .before .before .before .before .before .before .before .before .before .before .before .before .before .before .before .before .before .before .before .before .before .before .before .before .before .before .before .before .before .before .before .pre .4) (c .before .before .before .before .before .before .before .before .before .before .before .before .before .before .before .before .before .before .before .before .before .before .before .put-size .ensures) (c .before .before .before .before .before .before .before .before .before .before .before .before .before .before .before .before .put-rows .last .0) (a .pads .now) (c .before .before .before .before .before .before .before .before .before .before .before .before .before .before .before .before .put-rows .last .1 .1 .1 .1 .1 .0) (c .before .before .before .before .before .before .before .before .before .before .fill .last .0) (c .before .before .before .before .before .before .before .before .before .before .before .before .before .before .before .before .put-rows .ensures) (a .view) _ _ (c .before .clamp .ensures) (c .next-view .ensures)) (text-found (a .text .now) (a .view .used) (a .at) (a .payload .now) (a .lens .now) (c .before .before .before .before .before .before .before .before .before .before .before .before .before .before .before .before .before .before .before .before .before .before .before .before .before .before .before .rows-from .result) (c .before .before .before .before .before .before .before .before .before .before .before .before .before .before .before .before .before .before .before .before .before .before .before .put-size .result) (c .before .before .before .before .before .before .before .before .before .before .before .before .before .before .before .before .before .before .before .before .before .before .before .before .before .before .before .rows-from .ensures) (c .before .before .before .before .before .before .before .before .before .before .before .before .before .before .before .before .before .before .before .before .before .before .before .before .before .before .before .before .before .before .before .before .before .before .before .pre .4) (c .before .before .before .before .before .before .before .before .before .before .before .before .before .before .before .before .before .before .before .before .before .before .before .put-size .ensures) (c .before .before .before .before .before .before .before .before .before .before .before .before .before .before .before .before .put-rows .last .0) (a .pads .now) (c .before .before .before .before .before .before .before .before .before .before .before .before .before .before .before .before .put-rows .last .1 .1 .1 .1 .1 .0) (c .before .before .before .before .before .before .before .before .before .before .fill .last .0) (c .before .before .before .before .before .before .before .before .before .before .before .before .before .before .before .before .put-rows .ensures)) (sym (ap (λ (y : List ℕ). over y op) (payload-none (take (a .view .used) (a .text .now)) (a .at) (a .payload .now) (a .lens .now)))) (c .before .before .before .before .before .before .copy-in .ensures ∙ widths-found (take (a .view .used) (a .text .now)) (a .at) (a .payload .now) (a .lens .now) (a .widths .now)) (pads-found (a .text .now) (a .view .used) (a .at) (a .payload .now) (a .lens .now) (c .before .before .before .before .before .before .before .before .before .before .before .before .before .before .before .before .before .before .before .before .before .before .before .before .before .before .before .rows-from .result) (c .before .before .before .before .before .before .before .before .before .before .before .before .before .before .before .before .before .before .before .before .before .before .before .put-size .result) (c .before .before .before .before .before .before .before .before .before .before .before .before .before .before .before .before .before .before .before .before .before .before .before .before .before .before .before .rows-from .ensures) (c .before .before .before .before .before .before .before .before .before .before .before .before .before .before .before .before .before .before .before .before .before .before .before .before .before .before .before .before .before .before .before .before .before .before .before .pre .4) (c .before .before .before .before .before .before .before .before .before .before .before .before .before .before .before .before .before .before .before .before .before .before .before .put-size .ensures) (c .before .before .before .before .before .before .before .before .before .before .before .before .before .before .before .before .put-rows .last .0) (a .pads .now) (c .before .before .before .before .before .before .before .before .before .before .before .before .before .before .before .before .put-rows .last .1 .1 .1 .1 .1 .0) (c .before .before .before .before .before .before .before .before .before .before .fill .last .0) (c .before .before .before .before .before .before .before .before .before .before .before .before .before .before .before .before .put-rows .ensures) (c .before .before .before .before .before .before .before .before .before .before .fill .ensures))
 
 pub insert-block-spec : {M : Type 1} → statement M
 insert-block-spec =

@@ -7,7 +7,7 @@ use Rattle.promise.specs.Slices.{over}
 use Rattle.edit.specs.Call.{planOf, lent}
 use Rattle.chunks.proofs.Deleted.{plan-found, room-found, rows-asked, text-found, out-found, lens-found, applied-found, second-none}
 use Rattle.chunks.specs.Chunks.{cutFrom}
-use Rattle.plan.proofs.Work.{work-fits, work-refused, work-left}
+use Rattle.edit.proofs.Workers.{worked-fits, worked-refused, worked-done}
 use native.Mathlib.Omega.{arith}
 use borrow.Author.Needs.{needs}
 use Rattle.chunks.proofs.delete_chunks.Statement.{statement}
@@ -30,7 +30,7 @@ planned c = let a = c .before .before .before .before .before .before .before .b
 roomy : (c : tie.After-enum-told) → (c .before .before .before .cut-size .result .used ≤ length (c .before .before .before .before .before .before .before .before .before .before .before .before .before .before .before .args .text .now)) × (c .before .before .before .cut-size .result .used ≤ 16_384) × (length (cutFrom (c .before .before .before .before .before .before .before .before .before .before .before .before .before .before .before .args .text .now) (c .before .before .before .before .before .before .before .before .before .before .before .before .before .before .before .args .view .used) (c .before .before .before .before .before .before .before .before .before .before .before .before .before .before .before .args .at) (c .before .before .before .before .before .before .before .before .before .before .before .before .before .before .before .args .widths .now) (c .before .before .before .before .before .before .before .before .before .before .before .before .before .before .before .args .pads .now) .inverse .payload) ≤ length (c .before .before .before .before .before .before .before .before .before .before .before .before .before .before .before .args .out .now)) × (length (c .before .before .before .before .before .before .before .before .before .before .before .before .before .before .before .args .widths .now) ≤ length (c .before .before .before .before .before .before .before .before .before .before .before .before .before .before .before .args .lens .now))
 roomy c = let a = c .before .before .before .before .before .before .before .before .before .before .before .before .before .before .before .args in let p = c .before .before .before .before .before .before .before .before .before .before .before .before .before .before .before .pre in
     room-found (a .text .now) (a .view .used) (a .at) (a .widths .now) (a .pads .now) (c .before .before .before .before .before .before .before .rows-from .result) (c .before .before .before .before .before .before .before .rows-from .ensures) (c .before .before .before .cut-size .result) (c .before .before .before .cut-size .ensures) (a .room)
-    (work-fits true (a .room) _ (c .before .before .judge .result) (c .before .before .judge .ensures) (cutFrom (a .text .now) (a .view .used) (a .at) (a .widths .now) (a .pads .now)) (planned (c .before .before)) (c .enum-told .given .1) .1) (a .out .now) (a .lens .now) (p .4) (p .5) (p .6)
+    (worked-fits true (a .room) (cutFrom (a .text .now) (a .view .used) (a .at) (a .widths .now) (a .pads .now)) (c .before .before .judge .result) (c .before .before .judge .ensures (cutFrom (a .text .now) (a .view .used) (a .at) (a .widths .now) (a .pads .now)) (planned (c .before .before))) (c .enum-told .given .1)) (a .out .now) (a .lens .now) (p .4) (p .5) (p .6)
 
 sub-rows-from : tie.Need-sub-rows-from
 sub-rows-from c = search needs
@@ -75,7 +75,7 @@ same-length : tie.Need-same-length
 same-length c = search needs
 
 returns : tie.Need-returns
-returns c = let a = c .before .before .before .before .before .before .before .before .before .before .before .before .before .before .before .before .args in λ x f s os e. work-refused true (a .room) _ (c .before .before .before .judge .result) (c .before .before .before .judge .ensures) (cutFrom (a .text .now) (a .view .used) (a .at) (a .widths .now) (a .pads .now)) (planned (c .before .before .before)) (a .view) (lent (a .text .now) x f s (a .out .now) (a .lens .now) os) e _ (c .before .verdict .given .1)
+returns c = let a = c .before .before .before .before .before .before .before .before .before .before .before .before .before .before .before .before .args in λ x f s os e. worked-refused true (a .room) (cutFrom (a .text .now) (a .view .used) (a .at) (a .widths .now) (a .pads .now)) (c .before .before .before .judge .result) (c .before .before .before .judge .ensures (cutFrom (a .text .now) (a .view .used) (a .at) (a .widths .now) (a .pads .now)) (planned (c .before .before .before))) (a .view) (lent (a .text .now) x f s (a .out .now) (a .lens .now) os) e _ (c .before .verdict .given .1)
 
 enum-told : tie.Need-enum-told
 enum-told c = search needs
@@ -123,7 +123,7 @@ same-length-4 : tie.Need-same-length-4
 same-length-4 c = search needs
 
 returns-2 : tie.Need-returns-2
-returns-2 c = let a = c .before .before .before .before .before .before .before .before .before .before .before .before .before .before .before .before .before .before .before .before .before .before .before .before .before .before .before .before .before .before .before .before .before .before .args in λ x f s os e. work-left true (a .room) _ (c .before .before .before .before .before .before .before .before .before .before .before .before .before .before .before .before .before .before .before .before .before .judge .result) (c .before .before .before .before .before .before .before .before .before .before .before .before .before .before .before .before .before .before .before .before .before .judge .ensures) (cutFrom (a .text .now) (a .view .used) (a .at) (a .widths .now) (a .pads .now)) (planned (c .before .before .before .before .before .before .before .before .before .before .before .before .before .before .before .before .before .before .before .before .before)) (a .view) (lent (a .text .now) x f s (a .out .now) (a .lens .now) os) e (c .before .before .before .before .before .before .before .before .before .before .before .before .before .before .before .before .before .before .before .enum-told .given .1) _ _ _ _ _ (applied-found (a .text .now) (a .view .used) (a .at) (a .widths .now) (a .pads .now) (c .before .before .before .before .before .before .before .before .before .before .before .before .before .before .before .before .before .before .before .before .before .before .before .before .before .before .rows-from .result) (c .before .before .before .before .before .before .before .before .before .before .before .before .before .before .before .before .before .before .before .before .before .before .before .before .before .before .rows-from .ensures) (c .before .before .before .before .before .before .before .before .before .before .before .before .before .before .cut-rows .last .0) (a .out .now) (c .before .before .before .before .before .before .before .before .before .before .before .before .before .before .cut-rows .last .1 .1 .1 .1 .1 .0) (a .lens .now) (c .before .before .before .before .before .before .before .before .before .before .before .before .before .before .cut-rows .last .1 .1 .1 .1 .1 .1 .0) (c .before .before .before .before .before .before .fill .last .0) (c .before .before .before .before .before .before .before .before .before .before .before .before .before .before .cut-rows .ensures) (c .before .before .before .before .before .before .before .before .before .before .before .before .before .before .before .before .before .before .before .before .before .before .cut-size .result) (c .before .before .before .before .before .before .before .before .before .before .before .before .before .before .before .before .before .before .before .before .before .before .cut-size .ensures) (a .view) _ _ (c .before .clamp .ensures) (c .next-view .ensures)) (text-found (a .text .now) (a .view .used) (a .at) (a .widths .now) (a .pads .now) (c .before .before .before .before .before .before .before .before .before .before .before .before .before .before .before .before .before .before .before .before .before .before .before .before .before .before .rows-from .result) (c .before .before .before .before .before .before .before .before .before .before .before .before .before .before .before .before .before .before .before .before .before .before .before .before .before .before .rows-from .ensures) (c .before .before .before .before .before .before .before .before .before .before .before .before .before .before .cut-rows .last .0) (a .out .now) (c .before .before .before .before .before .before .before .before .before .before .before .before .before .before .cut-rows .last .1 .1 .1 .1 .1 .0) (a .lens .now) (c .before .before .before .before .before .before .before .before .before .before .before .before .before .before .cut-rows .last .1 .1 .1 .1 .1 .1 .0) (c .before .before .before .before .before .before .fill .last .0) (c .before .before .before .before .before .before .before .before .before .before .before .before .before .before .cut-rows .ensures)) (out-found (a .text .now) (a .view .used) (a .at) (a .widths .now) (a .pads .now) (c .before .before .before .before .before .before .before .before .before .before .before .before .before .before .before .before .before .before .before .before .before .before .before .before .before .before .rows-from .result) (c .before .before .before .before .before .before .before .before .before .before .before .before .before .before .before .before .before .before .before .before .before .before .before .before .before .before .rows-from .ensures) (c .before .before .before .before .before .before .before .before .before .before .before .before .before .before .cut-rows .last .0) (a .out .now) (c .before .before .before .before .before .before .before .before .before .before .before .before .before .before .cut-rows .last .1 .1 .1 .1 .1 .0) (a .lens .now) (c .before .before .before .before .before .before .before .before .before .before .before .before .before .before .cut-rows .last .1 .1 .1 .1 .1 .1 .0) (c .before .before .before .before .before .before .fill .last .0) (c .before .before .before .before .before .before .before .before .before .before .before .before .before .before .cut-rows .ensures)) (lens-found (a .text .now) (a .view .used) (a .at) (a .widths .now) (a .pads .now) (c .before .before .before .before .before .before .before .before .before .before .before .before .before .before .before .before .before .before .before .before .before .before .before .before .before .before .rows-from .result) (c .before .before .before .before .before .before .before .before .before .before .before .before .before .before .before .before .before .before .before .before .before .before .before .before .before .before .rows-from .ensures) (c .before .before .before .before .before .before .before .before .before .before .before .before .before .before .cut-rows .last .0) (a .out .now) (c .before .before .before .before .before .before .before .before .before .before .before .before .before .before .cut-rows .last .1 .1 .1 .1 .1 .0) (a .lens .now) (c .before .before .before .before .before .before .before .before .before .before .before .before .before .before .cut-rows .last .1 .1 .1 .1 .1 .1 .0) (c .before .before .before .before .before .before .fill .last .0) (c .before .before .before .before .before .before .before .before .before .before .before .before .before .before .cut-rows .ensures) (c .before .before .before .before .before .before .fill .ensures)) (sym (ap (λ (y : List ℕ). over y os) (second-none (take (a .view .used) (a .text .now)) (a .at) (a .widths .now) (a .pads .now))))
+returns-2 c = let a = c .before .before .before .before .before .before .before .before .before .before .before .before .before .before .before .before .before .before .before .before .before .before .before .before .before .before .before .before .before .before .before .before .before .before .args in λ x f s os e. worked-done true (a .room) (cutFrom (a .text .now) (a .view .used) (a .at) (a .widths .now) (a .pads .now)) (c .before .before .before .before .before .before .before .before .before .before .before .before .before .before .before .before .before .before .before .before .before .judge .result) (c .before .before .before .before .before .before .before .before .before .before .before .before .before .before .before .before .before .before .before .before .before .judge .ensures (cutFrom (a .text .now) (a .view .used) (a .at) (a .widths .now) (a .pads .now)) (planned (c .before .before .before .before .before .before .before .before .before .before .before .before .before .before .before .before .before .before .before .before .before))) (a .view) (lent (a .text .now) x f s (a .out .now) (a .lens .now) os) e (c .before .before .before .before .before .before .before .before .before .before .before .before .before .before .before .before .before .before .before .enum-told .given .1) _ _ _ _ _ (applied-found (a .text .now) (a .view .used) (a .at) (a .widths .now) (a .pads .now) (c .before .before .before .before .before .before .before .before .before .before .before .before .before .before .before .before .before .before .before .before .before .before .before .before .before .before .rows-from .result) (c .before .before .before .before .before .before .before .before .before .before .before .before .before .before .before .before .before .before .before .before .before .before .before .before .before .before .rows-from .ensures) (c .before .before .before .before .before .before .before .before .before .before .before .before .before .before .cut-rows .last .0) (a .out .now) (c .before .before .before .before .before .before .before .before .before .before .before .before .before .before .cut-rows .last .1 .1 .1 .1 .1 .0) (a .lens .now) (c .before .before .before .before .before .before .before .before .before .before .before .before .before .before .cut-rows .last .1 .1 .1 .1 .1 .1 .0) (c .before .before .before .before .before .before .fill .last .0) (c .before .before .before .before .before .before .before .before .before .before .before .before .before .before .cut-rows .ensures) (c .before .before .before .before .before .before .before .before .before .before .before .before .before .before .before .before .before .before .before .before .before .before .cut-size .result) (c .before .before .before .before .before .before .before .before .before .before .before .before .before .before .before .before .before .before .before .before .before .before .cut-size .ensures) (a .view) _ _ (c .before .clamp .ensures) (c .next-view .ensures)) (text-found (a .text .now) (a .view .used) (a .at) (a .widths .now) (a .pads .now) (c .before .before .before .before .before .before .before .before .before .before .before .before .before .before .before .before .before .before .before .before .before .before .before .before .before .before .rows-from .result) (c .before .before .before .before .before .before .before .before .before .before .before .before .before .before .before .before .before .before .before .before .before .before .before .before .before .before .rows-from .ensures) (c .before .before .before .before .before .before .before .before .before .before .before .before .before .before .cut-rows .last .0) (a .out .now) (c .before .before .before .before .before .before .before .before .before .before .before .before .before .before .cut-rows .last .1 .1 .1 .1 .1 .0) (a .lens .now) (c .before .before .before .before .before .before .before .before .before .before .before .before .before .before .cut-rows .last .1 .1 .1 .1 .1 .1 .0) (c .before .before .before .before .before .before .fill .last .0) (c .before .before .before .before .before .before .before .before .before .before .before .before .before .before .cut-rows .ensures)) (out-found (a .text .now) (a .view .used) (a .at) (a .widths .now) (a .pads .now) (c .before .before .before .before .before .before .before .before .before .before .before .before .before .before .before .before .before .before .before .before .before .before .before .before .before .before .rows-from .result) (c .before .before .before .before .before .before .before .before .before .before .before .before .before .before .before .before .before .before .before .before .before .before .before .before .before .before .rows-from .ensures) (c .before .before .before .before .before .before .before .before .before .before .before .before .before .before .cut-rows .last .0) (a .out .now) (c .before .before .before .before .before .before .before .before .before .before .before .before .before .before .cut-rows .last .1 .1 .1 .1 .1 .0) (a .lens .now) (c .before .before .before .before .before .before .before .before .before .before .before .before .before .before .cut-rows .last .1 .1 .1 .1 .1 .1 .0) (c .before .before .before .before .before .before .fill .last .0) (c .before .before .before .before .before .before .before .before .before .before .before .before .before .before .cut-rows .ensures)) (lens-found (a .text .now) (a .view .used) (a .at) (a .widths .now) (a .pads .now) (c .before .before .before .before .before .before .before .before .before .before .before .before .before .before .before .before .before .before .before .before .before .before .before .before .before .before .rows-from .result) (c .before .before .before .before .before .before .before .before .before .before .before .before .before .before .before .before .before .before .before .before .before .before .before .before .before .before .rows-from .ensures) (c .before .before .before .before .before .before .before .before .before .before .before .before .before .before .cut-rows .last .0) (a .out .now) (c .before .before .before .before .before .before .before .before .before .before .before .before .before .before .cut-rows .last .1 .1 .1 .1 .1 .0) (a .lens .now) (c .before .before .before .before .before .before .before .before .before .before .before .before .before .before .cut-rows .last .1 .1 .1 .1 .1 .1 .0) (c .before .before .before .before .before .before .fill .last .0) (c .before .before .before .before .before .before .before .before .before .before .before .before .before .before .cut-rows .ensures) (c .before .before .before .before .before .before .fill .ensures)) (sym (ap (λ (y : List ℕ). over y os) (second-none (take (a .view .used) (a .text .now)) (a .at) (a .widths .now) (a .pads .now))))
 
 pub delete-chunks-spec : {M : Type 1} → statement M
 delete-chunks-spec =

@@ -4,7 +4,7 @@ use native.Mathlib.Omega.{arith}
 use lib.ListN.{take}
 use Rattle.text.specs.Text.{isLF}
 use Rattle.edit.specs.Call.{lent}
-use Rattle.plan.proofs.Work.{work-refused, work-done, work-fits}
+use Rattle.edit.proofs.Workers.{worked-fits, worked-refused, worked-leaves}
 use Rattle.edit.specs.declared.Plan.{Plan}
 use Rattle.edit.specs.Edits.{linesDeleted}
 use Rattle.flat.proofs.Deleting.{line-within, line-plan, line-done}
@@ -49,14 +49,14 @@ same-length c = search needs
 
 returns : tie.Need-returns
 returns c = let s = c .before .before .before .before .before .before .before .before .before .before .before .before in let a = s .args in
-    λ x f y of os same. work-refused true (a .room) _ _ (c .before .before .before .judge .ensures) (linesDeleted isLF (take (a .view .used) (a .text .now)) (a .start) (a .end)) (line-plan (a .view) (a .text .now) (a .start) (a .end) (s .pre .0) _ (c .before .before .before .before .before .before .before .line-cut .ensures)) (a .view) (lent (a .text .now) x f y (a .out .now) of os) same _ (c .before .verdict .given .1)
+    λ x f y of os same. worked-refused true (a .room) (linesDeleted isLF (take (a .view .used) (a .text .now)) (a .start) (a .end)) _ (c .before .before .before .judge .ensures (linesDeleted isLF (take (a .view .used) (a .text .now)) (a .start) (a .end)) (line-plan (a .view) (a .text .now) (a .start) (a .end) (s .pre .0) _ (c .before .before .before .before .before .before .before .line-cut .ensures))) (a .view) (lent (a .text .now) x f y (a .out .now) of os) same _ (c .before .verdict .given .1)
 
 enum-told : tie.Need-enum-told
 enum-told c = search needs
 
 close-gap-requires : tie.Need-close-gap-requires
 close-gap-requires c κs = let s = c .before .before .before .before .before .before .before .before .before .before .before .before .before in let a = s .args in
-    let w = line-within (a .view) (a .text .now) (a .start) (a .end) (s .pre .0) _ (c .before .before .before .before .before .before .before .before .line-cut .ensures) in let q = line-plan (a .view) (a .text .now) (a .start) (a .end) (s .pre .0) _ (c .before .before .before .before .before .before .before .before .line-cut .ensures) in let f = work-fits true (a .room) _ _ (c .before .before .before .before .judge .ensures) (linesDeleted isLF (take (a .view .used) (a .text .now)) (a .start) (a .end)) q (c .before .before .enum-told .given .1) .1 in
+    let w = line-within (a .view) (a .text .now) (a .start) (a .end) (s .pre .0) _ (c .before .before .before .before .before .before .before .before .line-cut .ensures) in let q = line-plan (a .view) (a .text .now) (a .start) (a .end) (s .pre .0) _ (c .before .before .before .before .before .before .before .before .line-cut .ensures) in let f = worked-fits true (a .room) (linesDeleted isLF (take (a .view .used) (a .text .now)) (a .start) (a .end)) _ (c .before .before .before .before .judge .ensures (linesDeleted isLF (take (a .view .used) (a .text .now)) (a .start) (a .end)) q) (c .before .before .enum-told .given .1) in
     (w .0, w .1, s .pre .0, omega (arith, f .payload, ap (λ (z : Plan). z .payload) q, s .pre .3))
 
 sub-last-row : tie.Need-sub-last-row
@@ -86,7 +86,7 @@ same-length-3 c = search needs
 returns-2 : tie.Need-returns-2
 returns-2 c = let s = c .before .before .before .before .before .before .before .before .before .before .before .before .before .before .before .before .before .before .before .before .before .before .before in let a = s .args in
     λ x f y of os same. line-done (a .view) (a .text .now) (a .start) (a .end) (s .pre .0) _ (c .before .before .before .before .before .before .before .before .before .before .before .before .before .before .before .before .before .before .line-cut .ensures) _ _ _ (a .out .now) _ _ (c .before .before .before .before .before .before .before .before .before .close-gap .ensures) (c .before .before .last-row .ensures) (c .before .min .ensures) (c .next-view .ensures) x f y of os
-    ∙ work-done true (a .room) _ _ (c .before .before .before .before .before .before .before .before .before .before .before .before .before .before .judge .ensures) (linesDeleted isLF (take (a .view .used) (a .text .now)) (a .start) (a .end)) (line-plan (a .view) (a .text .now) (a .start) (a .end) (s .pre .0) _ (c .before .before .before .before .before .before .before .before .before .before .before .before .before .before .before .before .before .before .line-cut .ensures)) (a .view) (lent (a .text .now) x f y (a .out .now) of os) same (c .before .before .before .before .before .before .before .before .before .before .before .before .enum-told .given .1)
+    ∙ worked-leaves true (a .room) (linesDeleted isLF (take (a .view .used) (a .text .now)) (a .start) (a .end)) _ (c .before .before .before .before .before .before .before .before .before .before .before .before .before .before .judge .ensures (linesDeleted isLF (take (a .view .used) (a .text .now)) (a .start) (a .end)) (line-plan (a .view) (a .text .now) (a .start) (a .end) (s .pre .0) _ (c .before .before .before .before .before .before .before .before .before .before .before .before .before .before .before .before .before .before .line-cut .ensures))) (a .view) (lent (a .text .now) x f y (a .out .now) of os) same (c .before .before .before .before .before .before .before .before .before .before .before .before .enum-told .given .1)
 
 pub delete-lines-spec : {M : Type 1} → statement M
 delete-lines-spec =

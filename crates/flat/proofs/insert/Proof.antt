@@ -7,7 +7,7 @@ use Rattle.text.proofs.Spots.{place-within}
 use Rattle.text.proofs.Texts.{front}
 use Rattle.edit.specs.Edits.{inserted}
 use Rattle.edit.specs.Call.{lent}
-use Rattle.plan.proofs.Work.{work-refused, work-done, work-fits}
+use Rattle.edit.proofs.Workers.{worked-fits, worked-refused, worked-leaves}
 use Rattle.flat.proofs.Inserting.{insert-size, insert-plan, insert-done}
 use native.Mathlib.Omega.{arith}
 use borrow.Author.Needs.{needs}
@@ -32,7 +32,7 @@ enum-known-verdict c = search needs
 
 returns : tie.Need-returns
 returns c = let s = c .before .before .before .before .before .before in let a = s .args in
-    λ x f t op of os same. work-refused true (a .room) _ _ (c .before .before .before .judge .ensures) (inserted isLF (take (a .view .used) (a .text .now)) (a .at) (a .payload .now)) (insert-plan (a .view) (a .text .now) (a .payload .now) (a .at) (s .pre .0)) (a .view) (lent (a .text .now) x f t op of os) same _ (c .before .verdict .given .1)
+    λ x f t op of os same. worked-refused true (a .room) (inserted isLF (take (a .view .used) (a .text .now)) (a .at) (a .payload .now)) _ (c .before .before .before .judge .ensures (inserted isLF (take (a .view .used) (a .text .now)) (a .at) (a .payload .now)) (insert-plan (a .view) (a .text .now) (a .payload .now) (a .at) (s .pre .0))) (a .view) (lent (a .text .now) x f t op of os) same _ (c .before .verdict .given .1)
 
 enum-told : tie.Need-enum-told
 enum-told c = search needs
@@ -56,7 +56,7 @@ end-after-requires c κs = let s = c .before .before .before .before .before .be
 open-gap-requires : tie.Need-open-gap-requires
 open-gap-requires c κs = let s = c .before .before .before .before .before .before .before .before .before .before .before in let a = s .args in
     let w = place-within isLF _ (a .at) _ (c .before .before .before .locate .ensures) in let l = length-take-le (a .view .used) (a .text .now) (s .pre .0) in let m = front (a .text .now) (a .view .used) in
-    let f = work-fits true (a .room) _ _ (c .before .before .before .before .before .before .before .before .judge .ensures) (inserted isLF (take (a .view .used) (a .text .now)) (a .at) (a .payload .now)) (insert-plan (a .view) (a .text .now) (a .payload .now) (a .at) (s .pre .0)) (c .before .before .before .before .before .before .enum-told .given .1) .1 in
+    let f = worked-fits true (a .room) (inserted isLF (take (a .view .used) (a .text .now)) (a .at) (a .payload .now)) _ (c .before .before .before .before .before .before .before .before .judge .ensures (inserted isLF (take (a .view .used) (a .text .now)) (a .at) (a .payload .now)) (insert-plan (a .view) (a .text .now) (a .payload .now) (a .at) (s .pre .0))) (c .before .before .before .before .before .before .enum-told .given .1) in
     (omega (arith, w .2, ap length m, l), omega (arith, f .buffer, insert-size (a .view) (a .text .now) (a .payload .now) (a .at) (s .pre .0), s .pre .3))
 
 next-view-requires : tie.Need-next-view-requires
@@ -68,7 +68,7 @@ same-length c = search needs
 returns-2 : tie.Need-returns-2
 returns-2 c = let s = c .before .before .before .before .before .before .before .before .before .before .before .before .before .before .before in let a = s .args in
     λ x f t op of os same. insert-done (a .view) (a .text .now) (a .payload .now) (a .at) (s .pre .0) _ _ _ _ (c .before .before .before .before .before .before .before .locate .ensures) (c .before .before .before .before .before .end-after .ensures) (c .before .before .before .open-gap .ensures) (c .next-view .ensures) x f t op of os
-    ∙ work-done true (a .room) _ _ (c .before .before .before .before .before .before .before .before .before .before .before .before .judge .ensures) (inserted isLF (take (a .view .used) (a .text .now)) (a .at) (a .payload .now)) (insert-plan (a .view) (a .text .now) (a .payload .now) (a .at) (s .pre .0)) (a .view) (lent (a .text .now) x f t op of os) same (c .before .before .before .before .before .before .before .before .before .before .enum-told .given .1)
+    ∙ worked-leaves true (a .room) (inserted isLF (take (a .view .used) (a .text .now)) (a .at) (a .payload .now)) _ (c .before .before .before .before .before .before .before .before .before .before .before .before .judge .ensures (inserted isLF (take (a .view .used) (a .text .now)) (a .at) (a .payload .now)) (insert-plan (a .view) (a .text .now) (a .payload .now) (a .at) (s .pre .0))) (a .view) (lent (a .text .now) x f t op of os) same (c .before .before .before .before .before .before .before .before .before .before .enum-told .given .1)
 
 pub insert-spec : {M : Type 1} → statement M
 insert-spec =

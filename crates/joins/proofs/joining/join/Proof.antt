@@ -1,0 +1,98 @@
+use Rattle.joins.proofs.JoinWorks.{join-refused, join-count, join-room, join-done}
+use Rattle.text.proofs.Walks.{found-again}
+use Rattle.text.proofs.Texts.{front}
+use lib.ListN.{length-take, length-drop}
+use mathlib.Core.Path.{refl}
+use native.Mathlib.Omega.{arith}
+use borrow.Author.Needs.{needs}
+use Rattle.joins.proofs.joining.join.Statement.{statement}
+use Rattle.joins.proofs.joining.join.Tie as tie
+use Rattle.joins.proofs.joining.join.Reads as reads
+use Rattle.joins.proofs.joining.join.Lts as lts
+use Rattle.joins.proofs.joining.join_plan.Reads as join-plan-reads
+use Rattle.joins.proofs.joining.join_rows.Reads as join-rows-reads
+use Rattle.plan.proofs.judge.Reads as judge-reads
+use Rattle.plan.proofs.next_view.Reads as next-view-reads
+use Rattle.text.proofs.find_row.Reads as find-row-reads
+
+sub-find-row : tie.Need-sub-find-row
+sub-find-row c = search needs
+
+part-find-row-start : tie.Need-part-find-row-start
+part-find-row-start c = search needs
+
+part-find-row-end : tie.Need-part-find-row-end
+part-find-row-end c = search needs
+
+find-row-requires : tie.Need-find-row-requires
+find-row-requires c κs = search needs
+
+sub-join-plan : tie.Need-sub-join-plan
+sub-join-plan c = search needs
+
+part-join-plan-start : tie.Need-part-join-plan-start
+part-join-plan-start c = search needs
+
+part-join-plan-end : tie.Need-part-join-plan-end
+part-join-plan-end c = search needs
+
+join-plan-requires : tie.Need-join-plan-requires
+join-plan-requires c κs = let s = c .before .before .before .before .before .before .before .before in let a = s .args in (simp (length-take, length-drop) (omega arith), rw (front (a .text .now) (a .view .used)) (found-again (a .text .now) (a .view .used) (a .row .0) (c .before .before .find-row .result) (c .before .before .find-row .ensures)))
+
+judge-requires : tie.Need-judge-requires
+judge-requires c κs = search needs
+
+enum-known-verdict : tie.Need-enum-known-verdict
+enum-known-verdict c = search needs
+
+same-length : tie.Need-same-length
+same-length c = search needs
+
+returns : tie.Need-returns
+returns c = let a = c .before .before .before .before .before .before .before .before .before .before .before .before .before .args in λ x f s op e. join-refused (a .text .now) (a .view .used) (a .row .0) (a .count) (a .spaced) (c .before .before .before .before .before .before .before .find-row .result) (c .before .before .before .before .before .before .before .find-row .ensures) (c .before .before .before .before .join-plan .result) (c .before .before .before .before .join-plan .ensures) (a .view) (a .room) (c .before .before .before .judge .result) (c .before .before .before .judge .ensures) _ (c .before .verdict .given .1) x f s op (a .cols .now) (a .flags .now) e
+
+enum-told : tie.Need-enum-told
+enum-told c = search needs
+
+join-rows-requires : tie.Need-join-rows-requires
+join-rows-requires c κs = let s = c .before .before .before .before .before .before .before .before .before .before .before .before .before .before .before in let a = s .args in let q = join-room (a .text .now) (a .view .used) (a .row .0) (a .count) (a .spaced) (c .before .before .before .before .before .before .before .before .before .find-row .result) (c .before .before .before .before .before .before .before .before .before .find-row .ensures) (c .before .before .before .before .before .before .join-plan .result) (c .before .before .before .before .before .before .join-plan .ensures) (a .view) refl (a .room) (c .before .before .before .before .before .judge .result) (c .before .before .before .before .before .judge .ensures) (c .before .before .before .enum-told .given .1) in
+    (s .pre .0, s .pre .1, found-again (a .text .now) (a .view .used) (a .row .0) (c .before .before .before .before .before .before .before .before .before .find-row .result) (c .before .before .before .before .before .before .before .before .before .find-row .ensures), join-count (a .text .now) (a .view .used) (a .row .0) (a .count) (a .spaced) (c .before .before .before .before .before .before .before .before .before .find-row .result) (c .before .before .before .before .before .before .before .before .before .find-row .ensures) (c .before .before .before .before .before .before .join-plan .result) (c .before .before .before .before .before .before .join-plan .ensures), omega (arith, q .0, s .pre .2), omega (arith, q .1, s .pre .3))
+
+next-view-requires : tie.Need-next-view-requires
+next-view-requires c κs = search needs
+
+same-length-2 : tie.Need-same-length-2
+same-length-2 c = search needs
+
+same-length-3 : tie.Need-same-length-3
+same-length-3 c = search needs
+
+same-length-4 : tie.Need-same-length-4
+same-length-4 c = search needs
+
+returns-2 : tie.Need-returns-2
+returns-2 c = let a = c .before .before .before .before .before .before .before .before .before .before .before .before .before .before .before .before .before .before .before .before .before .before .before .before .args in λ x f s op e. join-done (a .text .now) (a .view .used) (a .row .0) (a .count) (a .spaced) (c .before .before .before .before .before .before .before .before .before .before .before .before .before .before .before .before .before .before .find-row .result) (c .before .before .before .before .before .before .before .before .before .before .before .before .before .before .before .before .before .before .find-row .ensures) (c .before .before .before .before .before .before .before .before .before .before .before .before .before .before .before .join-plan .result) (c .before .before .before .before .before .before .before .before .before .before .before .before .before .before .before .join-plan .ensures) (a .view) refl (a .room) (c .before .before .before .before .before .before .before .before .before .before .before .before .before .before .judge .result) (c .before .before .before .before .before .before .before .before .before .before .before .before .before .before .judge .ensures) (c .before .before .before .before .before .before .before .before .before .before .before .before .enum-told .given .1) _ (c .next-view .ensures) _ (a .cols .now) _ (a .flags .now) _ x f s op (c .before .before .before .before .before .before .before .before .join-rows .ensures) e
+
+pub join-spec : {M : Type 1} → statement M
+join-spec =
+    tie.close
+    (tie.spec
+    sub-find-row
+    part-find-row-start
+    part-find-row-end
+    find-row-requires
+    sub-join-plan
+    part-join-plan-start
+    part-join-plan-end
+    join-plan-requires
+    judge-requires
+    enum-known-verdict
+    same-length
+    returns
+    enum-told
+    join-rows-requires
+    next-view-requires
+    same-length-2
+    same-length-3
+    same-length-4
+    returns-2)

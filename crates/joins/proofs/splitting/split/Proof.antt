@@ -1,0 +1,98 @@
+use Rattle.joins.proofs.SplitWorks.{split-refused, split-room, split-done}
+use Rattle.text.proofs.Walks.{found-again}
+use Rattle.text.proofs.Texts.{front}
+use lib.ListN.{length-take, length-drop}
+use mathlib.Core.Path.{refl}
+use native.Mathlib.Omega.{arith}
+use borrow.Author.Needs.{needs}
+use Rattle.joins.proofs.splitting.split.Statement.{statement}
+use Rattle.joins.proofs.splitting.split.Tie as tie
+use Rattle.joins.proofs.splitting.split.Reads as reads
+use Rattle.joins.proofs.splitting.split.Lts as lts
+use Rattle.joins.proofs.splitting.any_flag.Reads as any-flag-reads
+use Rattle.joins.proofs.splitting.split_plan.Reads as split-plan-reads
+use Rattle.joins.proofs.splitting.split_row.Reads as split-row-reads
+use Rattle.plan.proofs.judge.Reads as judge-reads
+use Rattle.plan.proofs.next_view.Reads as next-view-reads
+use Rattle.text.proofs.find_row.Reads as find-row-reads
+
+sub-find-row : tie.Need-sub-find-row
+sub-find-row c = search needs
+
+part-find-row-start : tie.Need-part-find-row-start
+part-find-row-start c = search needs
+
+part-find-row-end : tie.Need-part-find-row-end
+part-find-row-end c = search needs
+
+find-row-requires : tie.Need-find-row-requires
+find-row-requires c κs = search needs
+
+sub-split-plan : tie.Need-sub-split-plan
+sub-split-plan c = search needs
+
+part-split-plan-start : tie.Need-part-split-plan-start
+part-split-plan-start c = search needs
+
+part-split-plan-end : tie.Need-part-split-plan-end
+part-split-plan-end c = search needs
+
+split-plan-requires : tie.Need-split-plan-requires
+split-plan-requires c κs = let s = c .before .before .before .before .before .before .before .before in let a = s .args in (simp (length-take, length-drop) (omega arith), rw (front (a .text .now) (a .view .used)) (found-again (a .text .now) (a .view .used) (a .row .0) (c .before .before .find-row .result) (c .before .before .find-row .ensures)), s .pre .2)
+
+judge-requires : tie.Need-judge-requires
+judge-requires c κs = search needs
+
+enum-known-verdict : tie.Need-enum-known-verdict
+enum-known-verdict c = search needs
+
+same-length : tie.Need-same-length
+same-length c = search needs
+
+returns : tie.Need-returns
+returns c = let a = c .before .before .before .before .before .before .before .before .before .before .before .before .before .before .args in λ x f s op of os e. split-refused (a .text .now) (a .view .used) (a .row) (a .cols .now) (a .flags .now) (c .before .before .before .before .before .before .before .before .find-row .result) (c .before .before .before .before .before .before .before .before .find-row .ensures) (c .before .before .before .before .before .split-plan .result) (c .before .before .before .before .before .split-plan .ensures) (a .view) (a .room) (c .before .before .before .judge .result) (c .before .before .before .judge .ensures) _ (c .before .verdict .given .1) x f s op of os e
+
+enum-told : tie.Need-enum-told
+enum-told c = search needs
+
+split-row-requires : tie.Need-split-row-requires
+split-row-requires c κs = let s = c .before .before .before .before .before .before .before .before .before .before .before .before .before .before in let a = s .args in (s .pre .0, found-again (a .text .now) (a .view .used) (a .row .0) (c .before .before .before .before .before .before .before .before .find-row .result) (c .before .before .before .before .before .before .before .before .find-row .ensures), omega (arith, split-room (a .text .now) (a .view .used) (a .row) (a .cols .now) (a .flags .now) (c .before .before .before .before .before .before .before .before .find-row .result) (c .before .before .before .before .before .before .before .before .find-row .ensures) (c .before .before .before .before .before .split-plan .result) (c .before .before .before .before .before .split-plan .ensures) (a .view) (a .room) (c .before .before .before .judge .result) (c .before .before .before .judge .ensures) (c .before .enum-told .given .1), s .pre .3))
+
+next-view-requires : tie.Need-next-view-requires
+next-view-requires c κs = search needs
+
+cast-t27 : tie.Need-cast-t27
+cast-t27 c = omega (arith, c .before .before .before .before .before .before .before .before .before .before .before .before .before .before .before .before .before .before .before .pre .2)
+
+any-flag-requires : tie.Need-any-flag-requires
+any-flag-requires c κs = search needs
+
+same-length-2 : tie.Need-same-length-2
+same-length-2 c = search needs
+
+returns-2 : tie.Need-returns-2
+returns-2 c = let a = c .before .before .before .before .before .before .before .before .before .before .before .before .before .before .before .before .before .before .before .before .args in λ x f s op of os e. split-done (a .text .now) (a .view .used) (a .row) (a .cols .now) (a .flags .now) (c .before .before .before .before .before .before .before .before .before .before .before .before .before .before .find-row .result) (c .before .before .before .before .before .before .before .before .before .before .before .before .before .before .find-row .ensures) (c .before .before .before .before .before .before .before .before .before .before .before .split-plan .result) (c .before .before .before .before .before .before .before .before .before .before .before .split-plan .ensures) (a .view) (a .room) (c .before .before .before .before .before .before .before .before .before .judge .result) (c .before .before .before .before .before .before .before .before .before .judge .ensures) (c .before .before .before .before .before .before .before .enum-told .given .1) refl _ (c .before .next-view .ensures) _ (c .any-flag .ensures) _ x f s op of os (c .before .before .before .before .before .split-row .ensures) e
+
+pub split-spec : {M : Type 1} → statement M
+split-spec =
+    tie.close
+    (tie.spec
+    sub-find-row
+    part-find-row-start
+    part-find-row-end
+    find-row-requires
+    sub-split-plan
+    part-split-plan-start
+    part-split-plan-end
+    split-plan-requires
+    judge-requires
+    enum-known-verdict
+    same-length
+    returns
+    enum-told
+    split-row-requires
+    next-view-requires
+    cast-t27
+    any-flag-requires
+    same-length-2
+    returns-2)
