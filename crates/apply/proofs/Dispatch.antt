@@ -1,0 +1,30 @@
+-- From the call to the worker of its kind, and back.
+use mathlib.Core.Path.{_≡_, sym, _∙_, ap, subst}
+use Rattle.promise.specs.Paper.{done, refused}
+use Rattle.text.specs.declared.Position.{Position}
+use Rattle.edit.specs.declared.View.{View}
+use Rattle.edit.specs.declared.MotionKind.{MotionKind}
+use Rattle.edit.specs.declared.Edit.{Edit}
+use Rattle.edit.specs.declared.Edit.the-variants.{DeleteRange}
+use Rattle.edit.specs.declared.Refusal.{Refusal}
+use Rattle.edit.specs.declared.Verdict.{Verdict}
+use Rattle.edit.specs.declared.Verdict.the-variants.{Fine, Bad}
+use Rattle.edit.specs.Refusals.{withinOk}
+use Rattle.edit.specs.Call.{numberOf, offsetOf, paperVerdict, verdictOf, Lent, Outcome, outcome, textOf, resultOf, givenTests, finished, applied}
+use Rattle.edit.proofs.Workers.{applied-refused, applied-finished, Passed, given-passed}
+
+module _ (v : View) (e : Edit) (l : Lent) (x : Verdict) (h : paperVerdict x ≡ verdictOf (givenTests v e l)) where
+  pub refuses : (r : Refusal) → x ≡ Bad r → outcome (refused (numberOf r) (offsetOf r)) (l .buffer) (l .outPayload) (l .outFirst) (l .outSecond) ≡ applied v e l
+  refuses r q = applied-refused v e l (numberOf r) (offsetOf r) (rw q at h)
+
+  module _ (k : Edit) (same : e ≡ k) (q : x ≡ Fine) where
+    -- what the worker of a kind may rely on
+    pub handed : Passed v k l
+    handed = subst (λ (f : Edit). Passed v f l) same (given-passed v e l (rw q at h))
+
+    -- what it finishes is the whole call
+    pub finishes : (o : Outcome) → o ≡ finished (withinOk (textOf v l) k (l .first) (l .second)) v l (resultOf v k l) → o ≡ applied v e l
+    finishes o f = subst (λ (g : Edit). o ≡ applied v g l) (sym same) (f ∙ applied-finished v k l (subst (λ (g : Edit). done tt ≡ verdictOf (givenTests v g l)) same (rw q at h)))
+
+pub ranged : (e : Edit) (p q : Position) (m k : MotionKind) → e ≡ DeleteRange p q m → m ≡ k → e ≡ DeleteRange p q k
+ranged e p q m k h g = h ∙ ap (λ (x : MotionKind). DeleteRange p q x) g
