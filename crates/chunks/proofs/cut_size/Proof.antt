@@ -45,7 +45,7 @@ add-gone : tie.Need-add-gone Inv-loop μ-loop
 add-gone c = let q = sizing-bounds (sizing-next (c .before .before .before .before .before .loop .inv) (c .before .before .before .before .loop-test .taken) (c .before .before .before .before .before .before .before .before .before .before .pre .3) (c .before .before .pad-at .result) (c .before .before .pad-at .ensures) (c .before .cut-splice .result) (c .before .cut-splice .ensures)) in omega (arith, q .0, q .1, c .before .before .before .before .before .before .before .before .before .before .pre .0)
 
 sub-payload : tie.Need-sub-payload Inv-loop μ-loop
-sub-payload c = cut-order (c .before .before .before .before .before .before .loop .inv) (c .before .before .before .before .before .loop-test .taken) (c .before .before .before .before .before .before .before .before .before .before .before .pre .3) (c .before .before .before .pad-at .result) (c .before .before .before .pad-at .ensures) (c .before .before .cut-splice .result) (c .before .before .cut-splice .ensures) .1
+sub-payload c = let q = cut-order (c .before .before .before .before .before .before .loop .inv) (c .before .before .before .before .before .loop-test .taken) (c .before .before .before .before .before .before .before .before .before .before .before .pre .3) (c .before .before .before .pad-at .result) (c .before .before .before .pad-at .ensures) (c .before .before .cut-splice .result) (c .before .before .cut-splice .ensures) in omega (arith, q .0, q .1)
 
 add-payload : tie.Need-add-payload Inv-loop μ-loop
 add-payload c = let q = sizing-bounds (sizing-next (c .before .before .before .before .before .before .loop .inv) (c .before .before .before .before .before .loop-test .taken) (c .before .before .before .before .before .before .before .before .before .before .before .pre .3) (c .before .before .before .pad-at .result) (c .before .before .before .pad-at .ensures) (c .before .before .cut-splice .result) (c .before .before .cut-splice .ensures)) in omega (arith, q .0, q .1, c .before .before .before .before .before .before .before .before .before .before .before .pre .0)
