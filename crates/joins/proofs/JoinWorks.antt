@@ -26,7 +26,7 @@ use Rattle.edit.proofs.Joins.{joinCols-length, joinFlags-length}
 use Rattle.text.proofs.Walks.{found-row}
 use Rattle.edit.proofs.Workers.{worked-fits, worked-refused, worked-done}
 use Rattle.joins.specs.Turns.{joins, Slices, slices, filled}
-use Rattle.joins.proofs.JoinLoops.{belowOf, below-count, joins-same, joined-joins}
+use Rattle.joins.proofs.JoinTurns.{belowOf, below-count, joins-same, joined-joins}
 
 -- the row that was found, and the plan for it
 module _ (text : List ℕ) (used row count : ℕ) (b : Bool) (f : Span) (ef : f ≡ span isLF (take (used - 0) (drop 0 text)) row) where

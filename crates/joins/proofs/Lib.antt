@@ -1,7 +1,11 @@
 pub mod Splices
 pub mod JoinRows
-pub mod JoinLoops
+pub mod JoinTurns
+pub mod JoinPlans
+pub mod JoinStores
 pub mod JoinWorks
 pub mod SplitRows
-pub mod SplitLoops
+pub mod SplitTurns
+pub mod SplitPlans
+pub mod SplitStores
 pub mod SplitWorks

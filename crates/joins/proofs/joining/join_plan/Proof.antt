@@ -1,9 +1,9 @@
 use Rattle.text.proofs.Walks.{span-parts, span-within}
 use mathlib.Core.Path.{refl}
-use Prim.Native.Nat.{ℕ, _+_, _-_, _≤_}
+use Prim.Native.Nat.{ℕ, _+_, _-_, _≤_, _<_}
 use native.Mathlib.Omega.{arith}
 use lib.ListN.{length}
-use Rattle.joins.proofs.JoinLoops.{Planning, planning-none, planning-more, planning-sizes, planning-all, on-more}
+use Rattle.joins.proofs.JoinPlans.{Planning, planning-none, planning-more, planning-sizes, planning-all, on-inside}
 use borrow.Author.Needs.{needs}
 use Rattle.joins.proofs.joining.join_plan.Statement.{statement}
 use Rattle.joins.proofs.joining.join_plan.Tie as tie
@@ -23,14 +23,17 @@ sub-left c = omega (arith, span-parts (c .before .before .args .text .now) (c .b
 loop-holds : tie.Need-loop-holds Inv-loop μ-loop
 loop-holds c = let a = c .before .before .args in (omega arith, omega (arith, span-within (a .text .now) (a .found .row .0) (a .found) (c .before .before .pre .1)), omega arith, planning-none (a .text .now) (a .count) (a .spaced) (a .found .end .0) (a .found .end .0 - a .found .start .0))
 
+inside : (c : tie.In-loop Inv-loop μ-loop) → c .before .loop .at < length (c .before .before .before .before .args .text .now)
+inside c = on-inside (c .before .loop .at) (length (c .before .before .before .before .args .text .now)) _ (c .loop-test .taken)
+
 join-turn-requires : tie.Need-join-turn-requires Inv-loop μ-loop
-join-turn-requires c κs = let l = c .before .loop in (on-more (l .at) (length (c .before .before .before .before .args .text .now)) (l .made) (c .before .before .before .before .args .count) (c .loop-test .taken) .0, c .before .before .before .before .pre .0)
+join-turn-requires c κs = (inside c, c .before .before .before .before .pre .0)
 
 abbrev Sizes : ℕ → ℕ → ℕ → ℕ → ℕ → ℕ → Type 0
 Sizes used left gap at len n = (1 ≤ used) × (left ≤ used) × (gap ≤ 1) × (at + 1 + len ≤ n)
 
 sizes : (c : tie.After-join-turn Inv-loop μ-loop) → Sizes (c .before .before .loop .used) (c .before .before .loop .left) (c .join-turn .result .gap) (c .before .before .loop .at) (c .join-turn .result .len) (length (c .before .before .before .before .before .args .text .now))
-sizes c = let a = c .before .before .before .before .before .args in let l = c .before .before .loop in planning-sizes (a .text .now) (a .count) (a .spaced) (a .found .end .0) (a .found .end .0 - a .found .start .0) (l .used) (l .at) (l .left) (l .made) (l .inv .3) (c .before .loop-test .taken) (c .join-turn .result) (c .join-turn .ensures) (a .found) (c .before .before .before .before .before .pre .1) refl refl
+sizes c = let a = c .before .before .before .before .before .args in let l = c .before .before .loop in planning-sizes (a .text .now) (a .count) (a .spaced) (a .found .end .0) (a .found .end .0 - a .found .start .0) (l .used) (l .at) (l .left) (l .made) (l .inv .3) (inside (c .before)) (c .join-turn .result) (c .join-turn .ensures) (a .found) (c .before .before .before .before .before .pre .1) refl refl
 
 sub-used : tie.Need-sub-used Inv-loop μ-loop
 sub-used c = omega (arith, sizes c)
@@ -57,7 +60,7 @@ loop-less : tie.Need-loop-less Inv-loop μ-loop
 loop-less c = omega (arith, sizes (c .before .before .before .before))
 
 loop-again : tie.Need-loop-again Inv-loop μ-loop
-loop-again c = let s = sizes (c .before .before .before .before) in let a = c .before .before .before .before .before .before .before .before .before .args in let l = c .before .before .before .before .before .before .loop in (omega arith, omega arith, omega arith, planning-more (a .text .now) (a .count) (a .spaced) (a .found .end .0) (a .found .end .0 - a .found .start .0) (l .used) (l .at) (l .left) (l .made) (l .inv .3) (c .before .before .before .before .before .loop-test .taken) (c .before .before .before .before .join-turn .result) (c .before .before .before .before .join-turn .ensures))
+loop-again c = let s = sizes (c .before .before .before .before) in let a = c .before .before .before .before .before .before .before .before .before .args in let l = c .before .before .before .before .before .before .loop in (omega arith, omega arith, omega arith, planning-more (a .text .now) (a .count) (a .spaced) (a .found .end .0) (a .found .end .0 - a .found .start .0) (l .used) (l .at) (l .left) (l .made) (l .inv .3) (inside (c .before .before .before .before .before)) (c .before .before .before .before .join-turn .result) (c .before .before .before .before .join-turn .ensures) (c .before .before .before .before .before .loop-test .taken))
 
 cast-t17 : tie.Need-cast-t17 Inv-loop μ-loop
 cast-t17 c = search needs

@@ -4,7 +4,8 @@ use Prim.Native.Nat.{_+_, _-_, _≤_}
 use native.Mathlib.Omega.{arith}
 use lib.ListN.{length, take, length-set, length-take, length-drop}
 use Rattle.joins.specs.Turns.{joinTurn}
-use Rattle.joins.proofs.JoinLoops.{turn-lent, space-lent, Storing, storing-none, storing-within, storing-sizes, storing-more, storing-all}
+use Rattle.joins.proofs.JoinTurns.{turn-lent, space-lent}
+use Rattle.joins.proofs.JoinStores.{Storing, storing-none, storing-within, storing-sizes, storing-more, storing-all}
 use borrow.Author.Needs.{needs}
 use Rattle.joins.proofs.joining.join_rows.Statement.{statement}
 use Rattle.joins.proofs.joining.join_rows.Tie as tie

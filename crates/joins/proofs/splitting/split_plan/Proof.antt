@@ -1,4 +1,5 @@
-use Rattle.joins.proofs.SplitLoops.{counting-all, turn-bounds, Counting, counting-none, counting-more}
+use Rattle.joins.proofs.SplitTurns.{turn-bounds}
+use Rattle.joins.proofs.SplitPlans.{counting-all, Counting, counting-none, counting-more}
 use Rattle.text.proofs.Walks.{span-within}
 use lib.ListN.{length, getD}
 use Prim.Native.Nat.{_+_, _-_, _≤_}

@@ -1,4 +1,5 @@
-use Rattle.joins.proofs.SplitLoops.{turn-bounds, Putting, putting-none, putting-room, putting-more, putting-all}
+use Rattle.joins.proofs.SplitTurns.{turn-bounds}
+use Rattle.joins.proofs.SplitStores.{Putting, putting-none, putting-room, putting-more, putting-all}
 use Rattle.text.proofs.Walks.{span-within}
 use lib.ListN.{length, take, drop, getD, length-take, length-drop}
 use Prim.Native.Nat.{_+_, _-_, _≤_}
