@@ -6,14 +6,12 @@
 //     BYTES ! OFFSET      the bytes are refused, for what starts at the offset
 //     ? SCALARS           the scalars are refused
 // A line of any other form counts as a vector that did not come out.
-mod numbers;
-mod part;
 mod trial;
 mod vector;
 
 use libc::STDIN_FILENO;
 use libc::STDOUT_FILENO;
-use part::part_at;
+use lines::part_at;
 ghost use Prim.Native.Nat.{_≤_, _<_};
 ghost use lib.ListN.{length};
 

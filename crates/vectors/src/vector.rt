@@ -1,8 +1,8 @@
-use crate::numbers::read_numbers;
 use crate::trial::ROOM;
 use crate::trial::Said;
 use crate::trial::decode_gives;
 use crate::trial::encode_gives;
+use lines::read_numbers;
 ghost use Prim.Native.Nat.{_≤_};
 ghost use lib.ListN.{length};
 

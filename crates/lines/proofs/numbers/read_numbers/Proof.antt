@@ -1,11 +1,11 @@
--- `vectors::numbers::read_numbers`. The loop's invariant: the places stay within the text and within `out`, which keeps its length.
+-- `lines::numbers::read_numbers`. The loop's invariant: the places stay within the text and within `out`, which keeps its length.
 use mathlib.Core.Path.{_≡_}
 use Prim.Native.Nat.{_≤_, _-_}
 use native.Mathlib.Omega.{arith}
 use borrow.Author.Needs.{needs}
 use lib.ListN.{length-set, length}
-use Rattle.vectors.proofs.numbers.read_numbers.Statement.{statement}
-use Rattle.vectors.proofs.numbers.read_numbers.Tie as tie
+use Rattle.lines.proofs.numbers.read_numbers.Statement.{statement}
+use Rattle.lines.proofs.numbers.read_numbers.Tie as tie
 
 abbrev Inv-loop : tie.InvT-loop
 Inv-loop text out₀ count₀ at₀ out count at = (at ≤ length text) × (count ≤ length out) × (length out ≡ length out₀)

@@ -1,9 +1,9 @@
--- `vectors::numbers::read_word`. The loop's invariant: the value fits 32 bits.
+-- `lines::numbers::read_word`. The loop's invariant: the value fits 32 bits.
 use Prim.Native.Nat.{_≤_, _<_, _-_}
 use borrow.Author.Needs.{needs}
 use lib.ListN.{length}
-use Rattle.vectors.proofs.numbers.read_word.Statement.{statement}
-use Rattle.vectors.proofs.numbers.read_word.Tie as tie
+use Rattle.lines.proofs.numbers.read_word.Statement.{statement}
+use Rattle.lines.proofs.numbers.read_word.Tie as tie
 
 abbrev Inv-loop : tie.InvT-loop
 Inv-loop word value₀ i₀ value i = (i ≤ length word) × (value < 4294967296)

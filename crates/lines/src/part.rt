@@ -2,13 +2,13 @@ ghost use Prim.Native.Nat.{_≤_, _<_};
 ghost use lib.ListN.{length};
 
 // Where a part of a text ends, and where the next one starts.
-pub(crate) struct Part {
-    pub(crate) end: usize,
-    pub(crate) next: usize,
+pub struct Part {
+    pub end: usize,
+    pub next: usize,
 }
 
 // The part from `start` up to the first `stop`, or to the end of the text.
-pub(crate) fn part_at(text: &[u8], start: usize, stop: u8) -> Part
+pub fn part_at(text: &[u8], start: usize, stop: u8) -> Part
     requires { ⌜ start < length (now text) ⌝ }
     ensures { λ r. ⌜ (start ≤ r .end) × (r .end ≤ length (now (text .entry))) ⌝ }
     ensures { λ r. ⌜ (start < r .next) × (r .next ≤ length (now (text .entry))) ⌝ }

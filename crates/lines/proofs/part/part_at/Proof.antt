@@ -1,9 +1,9 @@
--- `vectors::part::part_at`. The loop's invariant: the part ends within the text, at or after its start.
+-- `lines::part::part_at`. The loop's invariant: the part ends within the text, at or after its start.
 use Prim.Native.Nat.{_≤_, _-_}
 use borrow.Author.Needs.{needs}
 use lib.ListN.{length}
-use Rattle.vectors.proofs.part.part_at.Statement.{statement}
-use Rattle.vectors.proofs.part.part_at.Tie as tie
+use Rattle.lines.proofs.part.part_at.Statement.{statement}
+use Rattle.lines.proofs.part.part_at.Tie as tie
 
 abbrev Inv-loop : tie.InvT-loop
 Inv-loop text start stop end₀ end = (start ≤ end) × (end ≤ length text)

@@ -8,9 +8,9 @@ enum Word {
     Malformed,
 }
 
-pub(crate) struct Numbers {
-    pub(crate) well_formed: bool,
-    pub(crate) count: usize,
+pub struct Numbers {
+    pub well_formed: bool,
+    pub count: usize,
 }
 
 fn wide(x: u8) -> u32
@@ -48,7 +48,7 @@ fn read_word(word: &[u8]) -> Word {
 }
 
 // The numbers of a text, to the front of `out`, which has to have room for them.
-pub(crate) fn read_numbers(text: &[u8], out: &mut [u32]) -> Numbers
+pub fn read_numbers(text: &[u8], out: &mut [u32]) -> Numbers
     ensures { λ r. ⌜ r .count ≤ length (now (out .entry)) ⌝ }
 {
     let mut count = 0;
