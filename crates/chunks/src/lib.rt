@@ -6,6 +6,7 @@ use edit::Plan;
 use edit::Room;
 use edit::Verdict;
 use edit::View;
+use edit::extent;
 use text::CharOffset;
 use text::Col;
 use text::Position;
@@ -175,17 +176,6 @@ pub fn delete_chunks(
     })
 }
 
-// How many numbers there are from the one to the other, both included.
-fn extent(a: u32, b: u32) -> u32
-    requires { ⌜ (a ≤ 1_000_000) × (b ≤ 1_000_000) ⌝ }
-    ensures { λ r. ⌜ r ≡ suc (max a b - min a b) ⌝ }
-{
-    if a <= b {
-        return b - a + 1;
-    }
-    a - b + 1
-}
-
 pub fn delete_block(
     text: &mut [u32],
     view: View,
@@ -198,8 +188,8 @@ pub fn delete_block(
     requires { ⌜ (view .used ≤ length (now text)) × (view .used ≤ textLimit) × (start .row .0 ≤ 1_000_000) × (start .col .0 ≤ 1_000_000) × (end .row .0 ≤ 1_000_000) × (end .col .0 ≤ 1_000_000) × (height start end ≤ 256) × (room .buffer ≡ length (now text)) × (room .payload ≡ length (now out)) × (room .first ≡ length (now lens)) ⌝ }
     ensures { λ r. ⌜ ((x f s os : List ℕ) → roomOf (lent (now (text .entry)) x f s (now (out .entry)) (now (lens .entry)) os) ≡ room → outcome (paperAnswer r) (now (text .exit)) (now (out .exit)) (now (lens .exit)) os ≡ finished true view (lent (now (text .entry)) x f s (now (out .entry)) (now (lens .entry)) os) (rangeDeleted isLF isSpace spaces (take (view .used) (now (text .entry))) start end Block)) ⌝ }
 {
-    let height = extent(start.row.0, end.row.0) as usize;
-    let breadth = extent(start.col.0, end.col.0);
+    let height = extent(start.row.0, end.row.0);
+    let breadth = extent(start.col.0, end.col.0) as u32;
     let corner = Position {
         row: start.row.min(end.row),
         col: start.col.min(end.col),

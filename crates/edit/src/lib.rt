@@ -4,6 +4,7 @@ use text::Position;
 use text::Row;
 use utf8::ByteOffset;
 ghost use mathlib.Core.Path.{_≡_};
+ghost use Prim.Native.Nat.{suc, _-_, min, max};
 
 // A text's used length in its buffer, the cursor, and how many edits were accepted, modulo 2^64.
 pub struct View {
@@ -22,6 +23,17 @@ impl View {
             cursor,
             changes,
         }
+    }
+}
+
+// How many rows or columns a block has from the one to the other, both counted.
+pub fn extent(a: u32, b: u32) -> usize
+    ensures { λ r. ⌜ r ≡ suc (max a b - min a b) ⌝ }
+{
+    if a <= b {
+        (b - a) as usize + 1
+    } else {
+        (a - b) as usize + 1
     }
 }
 

@@ -2,6 +2,6 @@
 use Rattle.promise.specs.Settled.{Settles}
 use Rattle.edit.specs.Call.{paperVerdict}
 
--- Each public promise settles its answer. (That of `height` is an equation for the answer itself.)
+-- The public promise settles its answer.
 pub record Settled : Type 0 where
   pub judge : Settles paperVerdict

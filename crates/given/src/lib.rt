@@ -10,7 +10,6 @@ use edit::Edit;
 use edit::Refusal;
 use edit::Verdict;
 use edit::View;
-pub use lists::height;
 use text::is_text;
 ghost use mathlib.Core.List.{List};
 ghost use mathlib.Core.Path.{_≡_};

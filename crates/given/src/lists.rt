@@ -2,6 +2,7 @@
 use crate::LIST_LIMIT;
 use edit::Edit;
 use edit::MotionKind;
+use edit::extent;
 use text::Position;
 use text::Row;
 use text::TEXT_LIMIT;
@@ -12,7 +13,6 @@ ghost use lib.Dec.{leb};
 ghost use lib.ListN.{length};
 ghost use Rattle.text.specs.Rows.{lastRow};
 ghost use Rattle.text.specs.Text.{isLF, textLimit};
-ghost use Rattle.edit.specs.Edits.{height};
 ghost use Rattle.edit.specs.Refusals.{few, short, fewRows, fewOk};
 
 fn few(list: &[u32]) -> bool
@@ -27,24 +27,13 @@ fn short(payload: &[u32]) -> bool
     payload.len() <= TEXT_LIMIT
 }
 
-// How many rows a block between two corners spans.
-pub fn height(start: Position, end: Position) -> usize
-    ensures { λ r. ⌜ r ≡ height start end ⌝ }
-{
-    if start.row.0 <= end.row.0 {
-        (end.row.0 - start.row.0) as usize + 1
-    } else {
-        (start.row.0 - end.row.0) as usize + 1
-    }
-}
-
 fn rows_few(start: Position, end: Position, kind: MotionKind) -> bool
     ensures { λ r. ⌜ r ≡ fewRows start end kind ⌝ }
 {
     match kind {
         MotionKind::Char => true,
         MotionKind::Line => true,
-        MotionKind::Block => height(start, end) <= LIST_LIMIT,
+        MotionKind::Block => extent(start.row.0, end.row.0) <= LIST_LIMIT,
     }
 }
 

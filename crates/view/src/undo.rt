@@ -4,7 +4,7 @@ use edit::Edit;
 use edit::MotionKind;
 use edit::Verdict;
 use edit::View;
-use given::height;
+use edit::extent;
 use given::judge;
 use text::Col;
 use text::LF;
@@ -61,7 +61,7 @@ fn block_undoable(text: &[u32], start: Position, end: Position) -> bool
         return true;
     }
     let from = line_to_char(text, top).0;
-    rows_wide(&text[from..], height(start, end), left)
+    rows_wide(&text[from..], extent(start.row.0, end.row.0), left)
 }
 
 fn range_undoable(text: &[u32], start: Position, end: Position, kind: MotionKind) -> bool

@@ -11,15 +11,14 @@ use Rattle.chunks.proofs.delete_block.Tie as tie
 use Rattle.chunks.proofs.delete_block.Reads as reads
 use Rattle.chunks.proofs.delete_block.Lts as lts
 use Rattle.chunks.proofs.delete_chunks.Reads as delete-chunks-reads
-use Rattle.chunks.proofs.extent.Reads as extent-reads
 use Rattle.text.proofs.Col.min.Reads as Col-min-reads
 use Rattle.text.proofs.Row.min.Reads as Row-min-reads
 
 extent-requires : tie.Need-extent-requires
 extent-requires c κs = search needs
 
-cast-height : tie.Need-cast-height
-cast-height c = search needs
+cast-breadth : tie.Need-cast-breadth
+cast-breadth c = search needs
 
 extent-requires-2 : tie.Need-extent-requires-2
 extent-requires-2 c κs = search needs
@@ -68,8 +67,8 @@ delete-block-spec =
     tie.close
     (tie.spec
     extent-requires
-    cast-height
     extent-requires-2
+    cast-breadth
     min-requires
     min-requires-2
     sub-delete-chunks

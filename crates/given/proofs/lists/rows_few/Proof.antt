@@ -12,8 +12,8 @@ enum-told-2 c = search needs
 enum-told-3 : tie.Need-enum-told-3
 enum-told-3 c = search needs
 
-height-requires : tie.Need-height-requires
-height-requires c κs = search needs
+extent-requires : tie.Need-extent-requires
+extent-requires c κs = search needs
 
 returns : tie.Need-returns
 unfolding fewRows
@@ -25,9 +25,9 @@ returns-2 c = rw (c .enum-told2 .given .1)
 
 returns-3 : tie.Need-returns-3
 unfolding fewRows
-returns-3 c = rw (c .before .enum-told3 .given .1, c .height .ensures)
+returns-3 c = rw (c .before .enum-told3 .given .1, c .extent .ensures)
 
 pub rows-few-spec : {M : Type 1} → statement M
 rows-few-spec =
     tie.close
-    (tie.spec enum-told enum-told-2 enum-told-3 height-requires returns returns-2 returns-3)
+    (tie.spec enum-told enum-told-2 enum-told-3 extent-requires returns returns-2 returns-3)

@@ -33,14 +33,14 @@ part-rows-wide-start c = let a = c .before .before .before .before .before .befo
 part-rows-wide-end : tie.Need-part-rows-wide-end
 part-rows-wide-end c = search needs
 
-height-requires : tie.Need-height-requires
-height-requires c κs = search needs
+extent-requires : tie.Need-extent-requires
+extent-requires c κs = search needs
 
 rows-wide-requires : tie.Need-rows-wide-requires
 rows-wide-requires c κs = search needs
 
 returns-2 : tie.Need-returns-2
-returns-2 c = let a = c .before .before .before .before .before .before .before .before .before .before .before .args in let top = c .before .before .before .before .before .before .before .before .before .min in let left = c .before .before .before .before .before .before .before .before .min2 in let from = c .before .before .before .line-to-char in block-wide (a .text .now) (a .start) (a .end) (top .result .0) (left .result .0) (from .result .0) (c .before .height .result) _ (omega (arith, c .before .before .before .before .before .before .before .last-row .ensures, c .before .before .before .before .if1 .left)) (top .ensures) (left .ensures) (from .ensures) (c .before .height .ensures) (c .rows-wide .ensures)
+returns-2 c = let a = c .before .before .before .before .before .before .before .before .before .before .before .args in let top = c .before .before .before .before .before .before .before .before .before .min in let left = c .before .before .before .before .before .before .before .before .min2 in let from = c .before .before .before .line-to-char in block-wide (a .text .now) (a .start) (a .end) (top .result .0) (left .result .0) (from .result .0) (c .before .extent .result) _ (omega (arith, c .before .before .before .before .before .before .before .last-row .ensures, c .before .before .before .before .if1 .left)) (top .ensures) (left .ensures) (from .ensures) (c .before .extent .ensures) (c .rows-wide .ensures)
 
 pub block-undoable-spec : {M : Type 1} → statement M
 block-undoable-spec =
@@ -55,6 +55,6 @@ block-undoable-spec =
     sub-rows-wide
     part-rows-wide-start
     part-rows-wide-end
-    height-requires
+    extent-requires
     rows-wide-requires
     returns-2)
