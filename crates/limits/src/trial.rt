@@ -97,6 +97,14 @@ fn position(row: u32, col: u32) -> Position {
     }
 }
 
+fn motion_of(kind: u32) -> MotionKind {
+    match kind {
+        2 => MotionKind::Char,
+        3 => MotionKind::Line,
+        _ => MotionKind::Block,
+    }
+}
+
 fn edit_of(n: [u32; NUMBERS]) -> Edit {
     let start = position(n[5], n[6]);
     let end = position(n[7], n[8]);
@@ -106,30 +114,15 @@ fn edit_of(n: [u32; NUMBERS]) -> Edit {
     match kind {
         0 => Edit::InsertChar { at: start },
         1 => Edit::InsertStr { at: start },
-        2 => Edit::DeleteRange {
+        2..=4 => Edit::DeleteRange {
             start,
             end,
-            kind: MotionKind::Char,
+            kind: motion_of(kind),
         },
-        3 => Edit::DeleteRange {
-            start,
-            end,
-            kind: MotionKind::Line,
-        },
-        4 => Edit::DeleteRange {
-            start,
-            end,
-            kind: MotionKind::Block,
-        },
-        5 => Edit::JoinLines {
+        5 | 6 => Edit::JoinLines {
             row,
             count,
-            with_space: false,
-        },
-        6 => Edit::JoinLines {
-            row,
-            count,
-            with_space: true,
+            with_space: kind == 6,
         },
         7 => Edit::SplitLines { row },
         8 => Edit::Replace { start, end },
@@ -147,6 +140,7 @@ fn view_of(n: [u32; NUMBERS]) -> View {
     }
 }
 
+// The arrays are made in functions of their own: where a proof sees one being made, it has each of its elements.
 fn blank_room() -> [u32; ROOM]
     ensures { λ r. ⌜ 16400 ≡ length r ⌝ }
 {
