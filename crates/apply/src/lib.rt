@@ -53,17 +53,8 @@ pub fn apply_edit(
         Edit::JoinLines {
             row,
             count,
-            with_space,
-        } => join(
-            text,
-            view,
-            room,
-            row,
-            count,
-            with_space,
-            outfirst,
-            outsecond,
-        ),
+            with_space: spaced,
+        } => join(text, view, room, row, count, spaced, outfirst, outsecond),
         Edit::SplitLines { row } => split(text, view, room, row, first, second),
         Edit::Replace { start, end } => {
             replace(text, view, room, start, end, payload, outpayload)

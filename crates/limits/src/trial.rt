@@ -7,6 +7,7 @@ use edit::Edit;
 use edit::MotionKind;
 use edit::View;
 use text::Col;
+use text::LF;
 use text::Position;
 use text::Row;
 ghost use Prim.Native.Nat.{_≤_, _<_};
@@ -22,8 +23,6 @@ pub(crate) const ITEMS: usize = 300;
 
 // No scalar, and past the limit of numbers: what stands where nothing is lent, and in the slices that are lent for the inverse.
 const FILL: u32 = 0xA5A5A5A5;
-
-const LF: u32 = 10;
 
 // A prime below 2^32.
 const MODULUS: u64 = 4294967291;
