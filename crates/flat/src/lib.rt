@@ -29,8 +29,8 @@ ghost use mathlib.Core.List.{List};
 ghost use Prim.Native.Nat.{ℕ, _≤_};
 ghost use lib.ListN.{length, take};
 ghost use Rattle.text.specs.Text.{isLF, textLimit};
-ghost use Rattle.edit.specs.Edits.{inserted, charsDeleted, linesDeleted, replaced};
-ghost use Rattle.edit.specs.Call.{paperAnswer, outcome, lent, roomOf, finished};
+ghost use Rattle.edit.specs.Edits.{Edited, inserted, charsDeleted, linesDeleted, replaced};
+ghost use Rattle.edit.specs.Call.{paperAnswer, paperVerdict, verdictOf, outcome, lent, roomOf, resultTests, planOf, finished};
 
 // What is cut stands from `start` up to `end`.
 pub struct Cut {
@@ -45,6 +45,22 @@ pub struct LineCut {
     pub cut: Cut,
 }
 
+// Rows 8 and 9 for a text of this length and an inverse with a payload of that: a flat edit's inverse has no lists.
+fn judge_flat(room: Room, used: usize, payload: usize) -> Verdict
+    ensures { λ r. ⌜ ((d : Edited ℕ) → planOf d ≡ record { used = used; payload = payload; first = 0; second = 0 } → paperVerdict r ≡ verdictOf (resultTests true room d)) ⌝ }
+{
+    judge(
+        true,
+        room,
+        Plan {
+            used,
+            payload,
+            first: 0,
+            second: 0,
+        },
+    )
+}
+
 // InsertStr and InsertChar.
 pub fn insert(text: &mut [u32], view: View, room: Room, at: Position, payload: &[u32]) -> Answer
     requires { ⌜ (view .used ≤ length (now text)) × (view .used ≤ textLimit) × (length (now payload) ≤ textLimit) × (room .buffer ≡ length (now text)) ⌝ }
@@ -52,16 +68,7 @@ pub fn insert(text: &mut [u32], view: View, room: Room, at: Position, payload: &
 {
     let used = view.used;
     let size = used + payload.len();
-    let verdict = judge(
-        true,
-        room,
-        Plan {
-            used: size,
-            payload: 0,
-            first: 0,
-            second: 0,
-        },
-    );
+    let verdict = judge_flat(room, size, 0);
     if let Verdict::Bad(why) = verdict {
         return Answer::Refused(why);
     }
@@ -98,16 +105,7 @@ pub fn delete_chars(
     let cut = char_cut(&text[0..used], start, end);
     let gone = cut.end.0 - cut.start.0;
     let left = used - gone;
-    let verdict = judge(
-        true,
-        room,
-        Plan {
-            used: left,
-            payload: gone,
-            first: 0,
-            second: 0,
-        },
-    );
+    let verdict = judge_flat(room, left, gone);
     if let Verdict::Bad(why) = verdict {
         return Answer::Refused(why);
     }
@@ -139,16 +137,7 @@ pub fn delete_lines(
     let cut = rows.cut;
     let gone = cut.end.0 - cut.start.0;
     let left = used - gone;
-    let verdict = judge(
-        true,
-        room,
-        Plan {
-            used: left,
-            payload: gone,
-            first: 0,
-            second: 0,
-        },
-    );
+    let verdict = judge_flat(room, left, gone);
     if let Verdict::Bad(why) = verdict {
         return Answer::Refused(why);
     }
@@ -184,16 +173,7 @@ pub fn replace(
     let gone = cut.end.0 - cut.start.0;
     let left = used - gone;
     let size = left + payload.len();
-    let verdict = judge(
-        true,
-        room,
-        Plan {
-            used: size,
-            payload: gone,
-            first: 0,
-            second: 0,
-        },
-    );
+    let verdict = judge_flat(room, size, gone);
     if let Verdict::Bad(why) = verdict {
         return Answer::Refused(why);
     }

@@ -14,7 +14,7 @@ use Rattle.flat.proofs.delete_chars.Tie as tie
 use Rattle.flat.proofs.delete_chars.Reads as reads
 use Rattle.flat.proofs.delete_chars.Lts as lts
 use Rattle.flat.proofs.cuts.char_cut.Reads as char-cut-reads
-use Rattle.plan.proofs.judge.Reads as judge-reads
+use Rattle.flat.proofs.judge_flat.Reads as judge-flat-reads
 use Rattle.plan.proofs.next_view.Reads as next-view-reads
 use Rattle.splice.proofs.close_gap.Reads as close-gap-reads
 use Rattle.text.proofs.Position.min.Reads as min-reads
@@ -41,8 +41,8 @@ sub-gone c = let s = c .before .before .before .before .before .before .before i
 sub-left : tie.Need-sub-left
 sub-left c = let s = c .before .before .before .before .before .before .before in let a = s .args in let w = char-within (a .view) (a .text .now) (a .start) (a .end) (s .pre .0) _ (c .before .char-cut .ensures) in omega (arith, w .0, w .1)
 
-judge-requires : tie.Need-judge-requires
-judge-requires c κs = search needs
+judge-flat-requires : tie.Need-judge-flat-requires
+judge-flat-requires c κs = search needs
 
 enum-known-verdict : tie.Need-enum-known-verdict
 enum-known-verdict c = search needs
@@ -52,14 +52,14 @@ same-length c = search needs
 
 returns : tie.Need-returns
 returns c = let s = c .before .before .before .before .before .before .before .before .before .before .before in let a = s .args in
-    λ x f y of os same. worked-refused true (a .room) (charsDeleted isLF (take (a .view .used) (a .text .now)) (a .start) (a .end)) _ (c .before .before .before .judge .ensures (charsDeleted isLF (take (a .view .used) (a .text .now)) (a .start) (a .end)) (char-plan (a .view) (a .text .now) (a .start) (a .end) (s .pre .0) _ (c .before .before .before .before .before .char-cut .ensures))) (a .view) (lent (a .text .now) x f y (a .out .now) of os) same _ (c .before .verdict .given .1)
+    λ x f y of os same. worked-refused true (a .room) (charsDeleted isLF (take (a .view .used) (a .text .now)) (a .start) (a .end)) _ (c .before .before .before .judge-flat .ensures (charsDeleted isLF (take (a .view .used) (a .text .now)) (a .start) (a .end)) (char-plan (a .view) (a .text .now) (a .start) (a .end) (s .pre .0) _ (c .before .before .before .before .before .char-cut .ensures))) (a .view) (lent (a .text .now) x f y (a .out .now) of os) same _ (c .before .verdict .given .1)
 
 enum-told : tie.Need-enum-told
 enum-told c = search needs
 
 close-gap-requires : tie.Need-close-gap-requires
 close-gap-requires c κs = let s = c .before .before .before .before .before .before .before .before .before .before .before .before in let a = s .args in
-    let w = char-within (a .view) (a .text .now) (a .start) (a .end) (s .pre .0) _ (c .before .before .before .before .before .before .char-cut .ensures) in let q = char-plan (a .view) (a .text .now) (a .start) (a .end) (s .pre .0) _ (c .before .before .before .before .before .before .char-cut .ensures) in let f = worked-fits true (a .room) (charsDeleted isLF (take (a .view .used) (a .text .now)) (a .start) (a .end)) _ (c .before .before .before .before .judge .ensures (charsDeleted isLF (take (a .view .used) (a .text .now)) (a .start) (a .end)) q) (c .before .before .enum-told .given .1) in
+    let w = char-within (a .view) (a .text .now) (a .start) (a .end) (s .pre .0) _ (c .before .before .before .before .before .before .char-cut .ensures) in let q = char-plan (a .view) (a .text .now) (a .start) (a .end) (s .pre .0) _ (c .before .before .before .before .before .before .char-cut .ensures) in let f = worked-fits true (a .room) (charsDeleted isLF (take (a .view .used) (a .text .now)) (a .start) (a .end)) _ (c .before .before .before .before .judge-flat .ensures (charsDeleted isLF (take (a .view .used) (a .text .now)) (a .start) (a .end)) q) (c .before .before .enum-told .given .1) in
     (w .0, w .1, s .pre .0, omega (arith, f .payload, ap (λ (z : Plan). z .payload) q, s .pre .3))
 
 sub-clamp : tie.Need-sub-clamp
@@ -86,7 +86,7 @@ same-length-3 c = search needs
 returns-2 : tie.Need-returns-2
 returns-2 c = let s = c .before .before .before .before .before .before .before .before .before .before .before .before .before .before .before .before .before .before .before .before .before in let a = s .args in
     λ x f y of os same. char-done (a .view) (a .text .now) (a .start) (a .end) (s .pre .0) _ (c .before .before .before .before .before .before .before .before .before .before .before .before .before .before .before .char-cut .ensures) _ _ _ (a .out .now) _ _ (c .before .before .before .before .before .before .before .before .before .before .before .before .before .before .before .before .before .before .min .ensures) (c .before .before .before .before .before .before .before .before .close-gap .ensures) (c .before .clamp .ensures) (c .next-view .ensures) x f y of os
-    ∙ worked-leaves true (a .room) (charsDeleted isLF (take (a .view .used) (a .text .now)) (a .start) (a .end)) _ (c .before .before .before .before .before .before .before .before .before .before .before .before .before .judge .ensures (charsDeleted isLF (take (a .view .used) (a .text .now)) (a .start) (a .end)) (char-plan (a .view) (a .text .now) (a .start) (a .end) (s .pre .0) _ (c .before .before .before .before .before .before .before .before .before .before .before .before .before .before .before .char-cut .ensures))) (a .view) (lent (a .text .now) x f y (a .out .now) of os) same (c .before .before .before .before .before .before .before .before .before .before .before .enum-told .given .1)
+    ∙ worked-leaves true (a .room) (charsDeleted isLF (take (a .view .used) (a .text .now)) (a .start) (a .end)) _ (c .before .before .before .before .before .before .before .before .before .before .before .before .before .judge-flat .ensures (charsDeleted isLF (take (a .view .used) (a .text .now)) (a .start) (a .end)) (char-plan (a .view) (a .text .now) (a .start) (a .end) (s .pre .0) _ (c .before .before .before .before .before .before .before .before .before .before .before .before .before .before .before .char-cut .ensures))) (a .view) (lent (a .text .now) x f y (a .out .now) of os) same (c .before .before .before .before .before .before .before .before .before .before .before .enum-told .given .1)
 
 pub delete-chars-spec : {M : Type 1} → statement M
 delete-chars-spec =
@@ -99,7 +99,7 @@ delete-chars-spec =
     char-cut-requires
     sub-gone
     sub-left
-    judge-requires
+    judge-flat-requires
     enum-known-verdict
     same-length
     returns

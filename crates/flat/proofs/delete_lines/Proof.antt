@@ -14,7 +14,7 @@ use Rattle.flat.proofs.delete_lines.Tie as tie
 use Rattle.flat.proofs.delete_lines.Reads as reads
 use Rattle.flat.proofs.delete_lines.Lts as lts
 use Rattle.flat.proofs.cuts.line_cut.Reads as line-cut-reads
-use Rattle.plan.proofs.judge.Reads as judge-reads
+use Rattle.flat.proofs.judge_flat.Reads as judge-flat-reads
 use Rattle.plan.proofs.next_view.Reads as next-view-reads
 use Rattle.splice.proofs.close_gap.Reads as close-gap-reads
 use Rattle.text.proofs.Row.min.Reads as min-reads
@@ -38,8 +38,8 @@ sub-gone c = let s = c .before .before .before .before .before .before .before .
 sub-left : tie.Need-sub-left
 sub-left c = let s = c .before .before .before .before .before .before .before .before in let a = s .args in let w = line-within (a .view) (a .text .now) (a .start) (a .end) (s .pre .0) _ (c .before .before .before .line-cut .ensures) in omega (arith, w .0, w .1)
 
-judge-requires : tie.Need-judge-requires
-judge-requires c κs = search needs
+judge-flat-requires : tie.Need-judge-flat-requires
+judge-flat-requires c κs = search needs
 
 enum-known-verdict : tie.Need-enum-known-verdict
 enum-known-verdict c = search needs
@@ -49,14 +49,14 @@ same-length c = search needs
 
 returns : tie.Need-returns
 returns c = let s = c .before .before .before .before .before .before .before .before .before .before .before .before in let a = s .args in
-    λ x f y of os same. worked-refused true (a .room) (linesDeleted isLF (take (a .view .used) (a .text .now)) (a .start) (a .end)) _ (c .before .before .before .judge .ensures (linesDeleted isLF (take (a .view .used) (a .text .now)) (a .start) (a .end)) (line-plan (a .view) (a .text .now) (a .start) (a .end) (s .pre .0) _ (c .before .before .before .before .before .before .before .line-cut .ensures))) (a .view) (lent (a .text .now) x f y (a .out .now) of os) same _ (c .before .verdict .given .1)
+    λ x f y of os same. worked-refused true (a .room) (linesDeleted isLF (take (a .view .used) (a .text .now)) (a .start) (a .end)) _ (c .before .before .before .judge-flat .ensures (linesDeleted isLF (take (a .view .used) (a .text .now)) (a .start) (a .end)) (line-plan (a .view) (a .text .now) (a .start) (a .end) (s .pre .0) _ (c .before .before .before .before .before .before .before .line-cut .ensures))) (a .view) (lent (a .text .now) x f y (a .out .now) of os) same _ (c .before .verdict .given .1)
 
 enum-told : tie.Need-enum-told
 enum-told c = search needs
 
 close-gap-requires : tie.Need-close-gap-requires
 close-gap-requires c κs = let s = c .before .before .before .before .before .before .before .before .before .before .before .before .before in let a = s .args in
-    let w = line-within (a .view) (a .text .now) (a .start) (a .end) (s .pre .0) _ (c .before .before .before .before .before .before .before .before .line-cut .ensures) in let q = line-plan (a .view) (a .text .now) (a .start) (a .end) (s .pre .0) _ (c .before .before .before .before .before .before .before .before .line-cut .ensures) in let f = worked-fits true (a .room) (linesDeleted isLF (take (a .view .used) (a .text .now)) (a .start) (a .end)) _ (c .before .before .before .before .judge .ensures (linesDeleted isLF (take (a .view .used) (a .text .now)) (a .start) (a .end)) q) (c .before .before .enum-told .given .1) in
+    let w = line-within (a .view) (a .text .now) (a .start) (a .end) (s .pre .0) _ (c .before .before .before .before .before .before .before .before .line-cut .ensures) in let q = line-plan (a .view) (a .text .now) (a .start) (a .end) (s .pre .0) _ (c .before .before .before .before .before .before .before .before .line-cut .ensures) in let f = worked-fits true (a .room) (linesDeleted isLF (take (a .view .used) (a .text .now)) (a .start) (a .end)) _ (c .before .before .before .before .judge-flat .ensures (linesDeleted isLF (take (a .view .used) (a .text .now)) (a .start) (a .end)) q) (c .before .before .enum-told .given .1) in
     (w .0, w .1, s .pre .0, omega (arith, f .payload, ap (λ (z : Plan). z .payload) q, s .pre .3))
 
 sub-last-row : tie.Need-sub-last-row
@@ -86,7 +86,7 @@ same-length-3 c = search needs
 returns-2 : tie.Need-returns-2
 returns-2 c = let s = c .before .before .before .before .before .before .before .before .before .before .before .before .before .before .before .before .before .before .before .before .before .before .before in let a = s .args in
     λ x f y of os same. line-done (a .view) (a .text .now) (a .start) (a .end) (s .pre .0) _ (c .before .before .before .before .before .before .before .before .before .before .before .before .before .before .before .before .before .before .line-cut .ensures) _ _ _ (a .out .now) _ _ (c .before .before .before .before .before .before .before .before .before .close-gap .ensures) (c .before .before .last-row .ensures) (c .before .min .ensures) (c .next-view .ensures) x f y of os
-    ∙ worked-leaves true (a .room) (linesDeleted isLF (take (a .view .used) (a .text .now)) (a .start) (a .end)) _ (c .before .before .before .before .before .before .before .before .before .before .before .before .before .before .judge .ensures (linesDeleted isLF (take (a .view .used) (a .text .now)) (a .start) (a .end)) (line-plan (a .view) (a .text .now) (a .start) (a .end) (s .pre .0) _ (c .before .before .before .before .before .before .before .before .before .before .before .before .before .before .before .before .before .before .line-cut .ensures))) (a .view) (lent (a .text .now) x f y (a .out .now) of os) same (c .before .before .before .before .before .before .before .before .before .before .before .before .enum-told .given .1)
+    ∙ worked-leaves true (a .room) (linesDeleted isLF (take (a .view .used) (a .text .now)) (a .start) (a .end)) _ (c .before .before .before .before .before .before .before .before .before .before .before .before .before .before .judge-flat .ensures (linesDeleted isLF (take (a .view .used) (a .text .now)) (a .start) (a .end)) (line-plan (a .view) (a .text .now) (a .start) (a .end) (s .pre .0) _ (c .before .before .before .before .before .before .before .before .before .before .before .before .before .before .before .before .before .before .line-cut .ensures))) (a .view) (lent (a .text .now) x f y (a .out .now) of os) same (c .before .before .before .before .before .before .before .before .before .before .before .before .enum-told .given .1)
 
 pub delete-lines-spec : {M : Type 1} → statement M
 delete-lines-spec =
@@ -98,7 +98,7 @@ delete-lines-spec =
     line-cut-requires
     sub-gone
     sub-left
-    judge-requires
+    judge-flat-requires
     enum-known-verdict
     same-length
     returns

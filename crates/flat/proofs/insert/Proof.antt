@@ -16,7 +16,7 @@ use Rattle.flat.proofs.insert.Tie as tie
 use Rattle.flat.proofs.insert.Reads as reads
 use Rattle.flat.proofs.insert.Lts as lts
 use Rattle.plan.proofs.end_after.Reads as end-after-reads
-use Rattle.plan.proofs.judge.Reads as judge-reads
+use Rattle.flat.proofs.judge_flat.Reads as judge-flat-reads
 use Rattle.plan.proofs.next_view.Reads as next-view-reads
 use Rattle.splice.proofs.open_gap.Reads as open-gap-reads
 use Rattle.text.proofs.locate.Reads as locate-reads
@@ -24,15 +24,15 @@ use Rattle.text.proofs.locate.Reads as locate-reads
 add-size : tie.Need-add-size
 add-size c = search needs
 
-judge-requires : tie.Need-judge-requires
-judge-requires c κs = search needs
+judge-flat-requires : tie.Need-judge-flat-requires
+judge-flat-requires c κs = search needs
 
 enum-known-verdict : tie.Need-enum-known-verdict
 enum-known-verdict c = search needs
 
 returns : tie.Need-returns
 returns c = let s = c .before .before .before .before .before .before in let a = s .args in
-    λ x f t op of os same. worked-refused true (a .room) (inserted isLF (take (a .view .used) (a .text .now)) (a .at) (a .payload .now)) _ (c .before .before .before .judge .ensures (inserted isLF (take (a .view .used) (a .text .now)) (a .at) (a .payload .now)) (insert-plan (a .view) (a .text .now) (a .payload .now) (a .at) (s .pre .0))) (a .view) (lent (a .text .now) x f t op of os) same _ (c .before .verdict .given .1)
+    λ x f t op of os same. worked-refused true (a .room) (inserted isLF (take (a .view .used) (a .text .now)) (a .at) (a .payload .now)) _ (c .before .before .before .judge-flat .ensures (inserted isLF (take (a .view .used) (a .text .now)) (a .at) (a .payload .now)) (insert-plan (a .view) (a .text .now) (a .payload .now) (a .at) (s .pre .0))) (a .view) (lent (a .text .now) x f t op of os) same _ (c .before .verdict .given .1)
 
 enum-told : tie.Need-enum-told
 enum-told c = search needs
@@ -56,7 +56,7 @@ end-after-requires c κs = let s = c .before .before .before .before .before .be
 open-gap-requires : tie.Need-open-gap-requires
 open-gap-requires c κs = let s = c .before .before .before .before .before .before .before .before .before .before .before in let a = s .args in
     let w = place-within isLF _ (a .at) _ (c .before .before .before .locate .ensures) in let l = length-take-le (a .view .used) (a .text .now) (s .pre .0) in let m = front (a .text .now) (a .view .used) in
-    let f = worked-fits true (a .room) (inserted isLF (take (a .view .used) (a .text .now)) (a .at) (a .payload .now)) _ (c .before .before .before .before .before .before .before .before .judge .ensures (inserted isLF (take (a .view .used) (a .text .now)) (a .at) (a .payload .now)) (insert-plan (a .view) (a .text .now) (a .payload .now) (a .at) (s .pre .0))) (c .before .before .before .before .before .before .enum-told .given .1) in
+    let f = worked-fits true (a .room) (inserted isLF (take (a .view .used) (a .text .now)) (a .at) (a .payload .now)) _ (c .before .before .before .before .before .before .before .before .judge-flat .ensures (inserted isLF (take (a .view .used) (a .text .now)) (a .at) (a .payload .now)) (insert-plan (a .view) (a .text .now) (a .payload .now) (a .at) (s .pre .0))) (c .before .before .before .before .before .before .enum-told .given .1) in
     (omega (arith, w .2, ap length m, l), omega (arith, f .buffer, insert-size (a .view) (a .text .now) (a .payload .now) (a .at) (s .pre .0), s .pre .3))
 
 next-view-requires : tie.Need-next-view-requires
@@ -68,14 +68,14 @@ same-length c = search needs
 returns-2 : tie.Need-returns-2
 returns-2 c = let s = c .before .before .before .before .before .before .before .before .before .before .before .before .before .before .before in let a = s .args in
     λ x f t op of os same. insert-done (a .view) (a .text .now) (a .payload .now) (a .at) (s .pre .0) _ _ _ _ (c .before .before .before .before .before .before .before .locate .ensures) (c .before .before .before .before .before .end-after .ensures) (c .before .before .before .open-gap .ensures) (c .next-view .ensures) x f t op of os
-    ∙ worked-leaves true (a .room) (inserted isLF (take (a .view .used) (a .text .now)) (a .at) (a .payload .now)) _ (c .before .before .before .before .before .before .before .before .before .before .before .before .judge .ensures (inserted isLF (take (a .view .used) (a .text .now)) (a .at) (a .payload .now)) (insert-plan (a .view) (a .text .now) (a .payload .now) (a .at) (s .pre .0))) (a .view) (lent (a .text .now) x f t op of os) same (c .before .before .before .before .before .before .before .before .before .before .enum-told .given .1)
+    ∙ worked-leaves true (a .room) (inserted isLF (take (a .view .used) (a .text .now)) (a .at) (a .payload .now)) _ (c .before .before .before .before .before .before .before .before .before .before .before .before .judge-flat .ensures (inserted isLF (take (a .view .used) (a .text .now)) (a .at) (a .payload .now)) (insert-plan (a .view) (a .text .now) (a .payload .now) (a .at) (s .pre .0))) (a .view) (lent (a .text .now) x f t op of os) same (c .before .before .before .before .before .before .before .before .before .before .enum-told .given .1)
 
 pub insert-spec : {M : Type 1} → statement M
 insert-spec =
     tie.close
     (tie.spec
     add-size
-    judge-requires
+    judge-flat-requires
     enum-known-verdict
     returns
     enum-told

@@ -16,7 +16,7 @@ use Rattle.flat.proofs.replace.Reads as reads
 use Rattle.flat.proofs.replace.Lts as lts
 use Rattle.flat.proofs.cuts.char_cut.Reads as char-cut-reads
 use Rattle.plan.proofs.end_after.Reads as end-after-reads
-use Rattle.plan.proofs.judge.Reads as judge-reads
+use Rattle.flat.proofs.judge_flat.Reads as judge-flat-reads
 use Rattle.plan.proofs.next_view.Reads as next-view-reads
 use Rattle.splice.proofs.close_gap.Reads as close-gap-reads
 use Rattle.splice.proofs.open_gap.Reads as open-gap-reads
@@ -47,8 +47,8 @@ sub-left c = let s = c .before .before .before .before .before .before .before .
 add-size : tie.Need-add-size
 add-size c = search needs
 
-judge-requires : tie.Need-judge-requires
-judge-requires c κs = search needs
+judge-flat-requires : tie.Need-judge-flat-requires
+judge-flat-requires c κs = search needs
 
 enum-known-verdict : tie.Need-enum-known-verdict
 enum-known-verdict c = search needs
@@ -58,14 +58,14 @@ same-length c = search needs
 
 returns : tie.Need-returns
 returns c = let s = c .before .before .before .before .before .before .before .before .before .before .before .before in let a = s .args in
-    λ x f y of os same. worked-refused true (a .room) (replaced isLF (take (a .view .used) (a .text .now)) (a .start) (a .end) (a .payload .now)) _ (c .before .before .before .judge .ensures (replaced isLF (take (a .view .used) (a .text .now)) (a .start) (a .end) (a .payload .now)) (replace-plan (a .view) (a .text .now) (a .payload .now) (a .start) (a .end) (s .pre .0) _ (c .before .before .before .before .before .char-cut .ensures))) (a .view) (lent (a .text .now) x f y (a .out .now) of os) same _ (c .before .verdict .given .1)
+    λ x f y of os same. worked-refused true (a .room) (replaced isLF (take (a .view .used) (a .text .now)) (a .start) (a .end) (a .payload .now)) _ (c .before .before .before .judge-flat .ensures (replaced isLF (take (a .view .used) (a .text .now)) (a .start) (a .end) (a .payload .now)) (replace-plan (a .view) (a .text .now) (a .payload .now) (a .start) (a .end) (s .pre .0) _ (c .before .before .before .before .before .char-cut .ensures))) (a .view) (lent (a .text .now) x f y (a .out .now) of os) same _ (c .before .verdict .given .1)
 
 enum-told : tie.Need-enum-told
 enum-told c = search needs
 
 close-gap-requires : tie.Need-close-gap-requires
 close-gap-requires c κs = let s = c .before .before .before .before .before .before .before .before .before .before .before .before .before in let a = s .args in
-    let w = char-within (a .view) (a .text .now) (a .start) (a .end) (s .pre .0) _ (c .before .before .before .before .before .before .char-cut .ensures) in let q = replace-plan (a .view) (a .text .now) (a .payload .now) (a .start) (a .end) (s .pre .0) _ (c .before .before .before .before .before .before .char-cut .ensures) in let f = worked-fits true (a .room) (replaced isLF (take (a .view .used) (a .text .now)) (a .start) (a .end) (a .payload .now)) _ (c .before .before .before .before .judge .ensures (replaced isLF (take (a .view .used) (a .text .now)) (a .start) (a .end) (a .payload .now)) q) (c .before .before .enum-told .given .1) in
+    let w = char-within (a .view) (a .text .now) (a .start) (a .end) (s .pre .0) _ (c .before .before .before .before .before .before .char-cut .ensures) in let q = replace-plan (a .view) (a .text .now) (a .payload .now) (a .start) (a .end) (s .pre .0) _ (c .before .before .before .before .before .before .char-cut .ensures) in let f = worked-fits true (a .room) (replaced isLF (take (a .view .used) (a .text .now)) (a .start) (a .end) (a .payload .now)) _ (c .before .before .before .before .judge-flat .ensures (replaced isLF (take (a .view .used) (a .text .now)) (a .start) (a .end) (a .payload .now)) q) (c .before .before .enum-told .given .1) in
     (w .0, w .1, s .pre .0, omega (arith, f .payload, ap (λ (z : Plan). z .payload) q, s .pre .4))
 
 sub-locate : tie.Need-sub-locate
@@ -86,7 +86,7 @@ end-after-requires c κs = let s = c .before .before .before .before .before .be
 
 open-gap-requires : tie.Need-open-gap-requires
 open-gap-requires c κs = let s = c .before .before .before .before .before .before .before .before .before .before .before .before .before .before .before .before .before .before .before .before .before .before .before .before in let a = s .args in
-    let g = found-within (a .view) (a .text .now) (a .start) (a .end) (s .pre .0) _ (c .before .before .before .before .before .before .before .before .before .before .before .before .before .before .before .before .before .char-cut .ensures) _ (a .out .now) _ (c .before .before .before .before .before .before .before .before .before .before .close-gap .ensures) _ _ (c .before .before .before .locate .ensures) in let w = char-within (a .view) (a .text .now) (a .start) (a .end) (s .pre .0) _ (c .before .before .before .before .before .before .before .before .before .before .before .before .before .before .before .before .before .char-cut .ensures) in let q = replace-plan (a .view) (a .text .now) (a .payload .now) (a .start) (a .end) (s .pre .0) _ (c .before .before .before .before .before .before .before .before .before .before .before .before .before .before .before .before .before .char-cut .ensures) in let f = worked-fits true (a .room) (replaced isLF (take (a .view .used) (a .text .now)) (a .start) (a .end) (a .payload .now)) _ (c .before .before .before .before .before .before .before .before .before .before .before .before .before .before .before .judge .ensures (replaced isLF (take (a .view .used) (a .text .now)) (a .start) (a .end) (a .payload .now)) q) (c .before .before .before .before .before .before .before .before .before .before .before .before .before .enum-told .given .1) in
+    let g = found-within (a .view) (a .text .now) (a .start) (a .end) (s .pre .0) _ (c .before .before .before .before .before .before .before .before .before .before .before .before .before .before .before .before .before .char-cut .ensures) _ (a .out .now) _ (c .before .before .before .before .before .before .before .before .before .before .close-gap .ensures) _ _ (c .before .before .before .locate .ensures) in let w = char-within (a .view) (a .text .now) (a .start) (a .end) (s .pre .0) _ (c .before .before .before .before .before .before .before .before .before .before .before .before .before .before .before .before .before .char-cut .ensures) in let q = replace-plan (a .view) (a .text .now) (a .payload .now) (a .start) (a .end) (s .pre .0) _ (c .before .before .before .before .before .before .before .before .before .before .before .before .before .before .before .before .before .char-cut .ensures) in let f = worked-fits true (a .room) (replaced isLF (take (a .view .used) (a .text .now)) (a .start) (a .end) (a .payload .now)) _ (c .before .before .before .before .before .before .before .before .before .before .before .before .before .before .before .judge-flat .ensures (replaced isLF (take (a .view .used) (a .text .now)) (a .start) (a .end) (a .payload .now)) q) (c .before .before .before .before .before .before .before .before .before .before .before .before .before .enum-told .given .1) in
     (g .2, omega (arith, char-kept (a .view) (a .text .now) (a .start) (a .end) (s .pre .0) _ (c .before .before .before .before .before .before .before .before .before .before .before .before .before .before .before .before .before .char-cut .ensures) _ (a .out .now) _ (c .before .before .before .before .before .before .before .before .before .before .close-gap .ensures), f .buffer, ap (λ (z : Plan). z .used) q, s .pre .3))
 
 next-view-requires : tie.Need-next-view-requires
@@ -100,9 +100,9 @@ same-length-3 c = search needs
 
 returns-2 : tie.Need-returns-2
 returns-2 c = let s = c .before .before .before .before .before .before .before .before .before .before .before .before .before .before .before .before .before .before .before .before .before .before .before .before .before .before .before .before in let a = s .args in
-    let q = replace-plan (a .view) (a .text .now) (a .payload .now) (a .start) (a .end) (s .pre .0) _ (c .before .before .before .before .before .before .before .before .before .before .before .before .before .before .before .before .before .before .before .before .before .char-cut .ensures) in let g = worked-fits true (a .room) (replaced isLF (take (a .view .used) (a .text .now)) (a .start) (a .end) (a .payload .now)) _ (c .before .before .before .before .before .before .before .before .before .before .before .before .before .before .before .before .before .before .before .judge .ensures (replaced isLF (take (a .view .used) (a .text .now)) (a .start) (a .end) (a .payload .now)) q) (c .before .before .before .before .before .before .before .before .before .before .before .before .before .before .before .before .before .enum-told .given .1) in
+    let q = replace-plan (a .view) (a .text .now) (a .payload .now) (a .start) (a .end) (s .pre .0) _ (c .before .before .before .before .before .before .before .before .before .before .before .before .before .before .before .before .before .before .before .before .before .char-cut .ensures) in let g = worked-fits true (a .room) (replaced isLF (take (a .view .used) (a .text .now)) (a .start) (a .end) (a .payload .now)) _ (c .before .before .before .before .before .before .before .before .before .before .before .before .before .before .before .before .before .before .before .judge-flat .ensures (replaced isLF (take (a .view .used) (a .text .now)) (a .start) (a .end) (a .payload .now)) q) (c .before .before .before .before .before .before .before .before .before .before .before .before .before .before .before .before .before .enum-told .given .1) in
     λ x f y of os same. replace-done (a .view) (a .text .now) (a .payload .now) (a .start) (a .end) (s .pre .0) _ (c .before .before .before .before .before .before .before .before .before .before .before .before .before .before .before .before .before .before .before .before .before .char-cut .ensures) _ (c .before .before .before .before .before .before .before .before .before .before .before .before .before .before .before .before .before .before .before .before .before .before .before .before .min .ensures) _ _ _ (a .out .now) _ (c .before .before .before .before .before .before .before .before .before .before .before .before .before .before .close-gap .ensures) (c .before .before .before .before .before .before .before .locate .ensures) (c .before .before .before .before .before .end-after .ensures) _ _ (c .before .before .before .open-gap .ensures) (omega (arith, g .buffer, ap (λ (z : Plan). z .used) q, s .pre .3)) (c .next-view .ensures) x f y of os
-    ∙ worked-leaves true (a .room) (replaced isLF (take (a .view .used) (a .text .now)) (a .start) (a .end) (a .payload .now)) _ (c .before .before .before .before .before .before .before .before .before .before .before .before .before .before .before .before .before .before .before .judge .ensures (replaced isLF (take (a .view .used) (a .text .now)) (a .start) (a .end) (a .payload .now)) q) (a .view) (lent (a .text .now) x f y (a .out .now) of os) same (c .before .before .before .before .before .before .before .before .before .before .before .before .before .before .before .before .before .enum-told .given .1)
+    ∙ worked-leaves true (a .room) (replaced isLF (take (a .view .used) (a .text .now)) (a .start) (a .end) (a .payload .now)) _ (c .before .before .before .before .before .before .before .before .before .before .before .before .before .before .before .before .before .before .before .judge-flat .ensures (replaced isLF (take (a .view .used) (a .text .now)) (a .start) (a .end) (a .payload .now)) q) (a .view) (lent (a .text .now) x f y (a .out .now) of os) same (c .before .before .before .before .before .before .before .before .before .before .before .before .before .before .before .before .before .enum-told .given .1)
 
 pub replace-spec : {M : Type 1} → statement M
 replace-spec =
@@ -116,7 +116,7 @@ replace-spec =
     sub-gone
     sub-left
     add-size
-    judge-requires
+    judge-flat-requires
     enum-known-verdict
     same-length
     returns
