@@ -14,7 +14,7 @@ use text::Row;
 ghost use mathlib.Core.Path.{_≡_};
 ghost use mathlib.Core.Bool.{true};
 ghost use mathlib.Core.List.{List};
-ghost use Prim.Native.Nat.{ℕ, suc, _+_, _-_, _≤_, min, max};
+ghost use Prim.Native.Nat.{ℕ, _+_, _-_, _≤_, min};
 ghost use lib.ListN.{length, take, getD};
 ghost use lib.Seq.{paste, slice};
 ghost use Rattle.text.specs.Rows.{rowCount, lastRow};

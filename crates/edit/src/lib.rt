@@ -14,7 +14,7 @@ pub struct View {
 }
 
 impl View {
-    // The one place where a view is made anew.
+    // The one place where a view is made anew. A part that a view gains later is kept from `self`.
     pub fn renew(self, used: usize, cursor: Position, changes: u64) -> View
         ensures { λ r. ⌜ r ≡ record { used = used; cursor = cursor; changes = changes } ⌝ }
     {

@@ -105,7 +105,7 @@ pub fn join(
     cols: &mut [u32],
     flags: &mut [u32],
 ) -> Answer
-    requires { ⌜ (view .used ≤ length (now text)) × (view .used ≤ textLimit) × (room .first ≡ length (now cols)) × (room .second ≡ length (now flags)) ⌝ }
+    requires { ⌜ (view .used ≤ length (now text)) × (view .used ≤ textLimit) × (room .first ≡ length (now cols)) × (room .second ≡ length (now flags)) × (room .buffer ≡ length (now text)) ⌝ }
     ensures { λ r. ⌜ ((x f s op : List ℕ) → roomOf (lent (now (text .entry)) x f s op (now (cols .entry)) (now (flags .entry))) ≡ room → outcome (paperAnswer r) (now (text .exit)) op (now (cols .exit)) (now (flags .exit)) ≡ finished true view (lent (now (text .entry)) x f s op (now (cols .entry)) (now (flags .entry))) (joined isLF isSpace spaces (take (view .used) (now (text .entry))) (row .0) count spaced)) ⌝ }
 {
     let used = view.used;

@@ -1,4 +1,4 @@
-// A row split at columns, the last column first: each split leaves the columns before it where they were.
+// A row split at columns, taken from the end of their list: what stands before a split is the row for the next one.
 use crate::SplitPlan;
 use crate::SplitTurn;
 use crate::replace;

@@ -317,10 +317,6 @@ module _ {A : Type 0} (lf : A → Bool) where
       let o = offset lf t p in
       rw (← end-take t p) (ap (λ (s : List A). clamp lf s (endOf lf (take o t))) (sym (take-append-drop o t)) ∙ clamp-end (take o t) (drop o t))
 
-  pub offset-clamp : (t : List A) (p : Position) → offset lf t (clamp lf t p) ≡ offset lf t p
-  unfolding offset
-  offset-clamp t p = rw (clamp-clamp t p)
-
   pub start-le : (t : List A) (r : ℕ) → rowStart lf t r ≤ length t
   start-le t zero = rw (start-first lf t) (omega arith)
   start-le [] (suc r) = rw (start-none lf) (omega arith)

@@ -90,7 +90,7 @@ enum-known-edit-4 c = search needs
 
 join-requires : tie.Need-join-requires
 unfolding fewOk
-join-requires c κs = let a = c .before .before .before .before .before .before .before .before .before .before .before .before .before .before .before .before .before .args in let t = fine-text (a .view) (a .edit) (lends (c .before .before .before .before .before .before .before .before)) _ (verdict (c .before .before .before .before .before .before .before .before)) (c .before .before .before .before .before .before .enum-told .given .1) in let h = handed (a .view) (a .edit) (lends (c .before .before .before .before .before .before .before .before)) _ (verdict (c .before .before .before .before .before .before .before .before)) (JoinLines _ _ _) (c .before .before .before .before .edit4 .given .1) (c .before .before .before .before .before .before .enum-told .given .1) in (t .0, t .1, refl, refl)
+join-requires c κs = let a = c .before .before .before .before .before .before .before .before .before .before .before .before .before .before .before .before .before .args in let t = fine-text (a .view) (a .edit) (lends (c .before .before .before .before .before .before .before .before)) _ (verdict (c .before .before .before .before .before .before .before .before)) (c .before .before .before .before .before .before .enum-told .given .1) in let h = handed (a .view) (a .edit) (lends (c .before .before .before .before .before .before .before .before)) _ (verdict (c .before .before .before .before .before .before .before .before)) (JoinLines _ _ _) (c .before .before .before .before .edit4 .given .1) (c .before .before .before .before .before .before .enum-told .given .1) in (t .0, t .1, refl, refl, refl)
 
 enum-known-edit-5 : tie.Need-enum-known-edit-5
 enum-known-edit-5 c = search needs
