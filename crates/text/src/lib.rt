@@ -78,7 +78,7 @@ impl CharOffset {
     pub fn max(self, other: CharOffset) -> CharOffset
         ensures { λ r. ⌜ r .0 ≡ max (self .0) (other .0) ⌝ }
     {
-        if self.0 <= other.0 { other } else { self }
+        if other.0 < self.0 { self } else { other }
     }
 }
 
