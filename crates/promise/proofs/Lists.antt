@@ -1,12 +1,12 @@
 -- Laws of lists that the toolchain's library lacks.
 use mathlib.Core.Path.{_≡_, _∙_}
-use mathlib.Core.List.{List, [], _∷_, _++_}
+use mathlib.Core.List.{List, [], _∷_, _++_, append-nil}
 use Prim.Native.Nat.{ℕ, zero, suc, _+_, _-_, _≤_, _<_, min}
 use native.Mathlib.Nat.{sub-zero, min-eq-left, min-eq-right}
 use native.Mathlib.Decide.{decLe}
 use native.Mathlib.Numerals.{add-one}
 use native.Mathlib.Omega.{arith}
-use lib.ListN.{length, take, drop, getD, set, length-append, length-take, length-drop}
+use lib.ListN.{length, take, drop, getD, set, length-append, length-take, length-drop, drop-of-length-le}
 use lib.Seq.{drop-cons, take-nil, take-all, take-length, take-take, append-snoc, set-at}
 use Rattle.promise.specs.Slices.{over}
 
@@ -24,6 +24,12 @@ drop-take (suc a) (suc u) (x ∷ s) = let e : suc u - suc a ≡ u - a = omega ar
 -- the part from a on, as it is lent
 pub tail-whole : (b : List ℕ) (a : ℕ) → take (length b - a) (drop a b) ≡ drop a b
 tail-whole b a = take-all (length b - a) (drop a b) (simp length-drop (omega arith))
+
+-- the whole, once that part has come back as y
+pub tail-back : (b y : List ℕ) (a : ℕ) → take a b ++ (y ++ drop (length b - a) (drop a b)) ≡ take a b ++ y
+tail-back b y a =
+    let l : length (drop a b) ≤ length b - a = simp length-drop (omega arith) in
+    rw (drop-of-length-le (drop a b) l, append-nil)
 
 -- a front goes no further than the list
 pub take-min : (c : ℕ) (z : List ℕ) → take c z ≡ take (min c (length z)) z

@@ -6,16 +6,10 @@ use native.Mathlib.Nat.{zero-add}
 use native.Mathlib.Omega.{arith}
 use lib.ListN.{length, take, drop, replicate, length-append, length-take, length-drop, length-replicate, drop-of-length-le}
 use lib.Seq.{take-all, take-at, drop-at, take-length, take-take, drop-drop, drop-append-add, paste, length-paste, length-take-le}
-use Rattle.promise.proofs.Lists.{drop-take, tail-whole}
+use Rattle.promise.proofs.Lists.{drop-take, tail-whole, tail-back}
 use Rattle.text.specs.Rows.{spliced}
 use Rattle.text.specs.Text.{renewed}
 use Rattle.splice.specs.Splice.{gapOpened, Gap, gap, gapRemoved, gapClosed}
-
--- what a lender holds after its part from index a on has come back as y
-tail-back : (b y : List ℕ) (a : ℕ) → take a b ++ (y ++ drop (length b - a) (drop a b)) ≡ take a b ++ y
-tail-back b y a =
-    let l : length (drop a b) ≤ length b - a = simp length-drop (omega arith) in
-    rw (drop-of-length-le (drop a b) l, append-nil)
 
 -- two pastes, one behind the other
 pub paste-both : (d x y : List ℕ) (at n : ℕ) → n ≡ length x → at + (n + length y) ≤ length d

@@ -10,3 +10,4 @@ pub mod Spots
 pub mod Walks
 pub mod Changes
 pub mod Turns
+pub mod Order

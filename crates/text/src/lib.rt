@@ -88,6 +88,12 @@ impl Col {
     {
         if other.0 < self.0 { other } else { self }
     }
+
+    pub fn max(self, other: Col) -> Col
+        ensures { λ r. ⌜ r .0 ≡ max (self .0) (other .0) ⌝ }
+    {
+        if other.0 <= self.0 { self } else { other }
+    }
 }
 
 impl Position {
