@@ -1,0 +1,28 @@
+use borrow.Author.Needs.{needs}
+use Rattle.select.proofs.Selection.head.Statement.{statement}
+use Rattle.select.proofs.Selection.head.Tie as tie
+use Rattle.select.proofs.Selection.head.Reads as reads
+use Rattle.select.proofs.Selection.head.Lts as lts
+
+enum-known-self : tie.Need-enum-known-self
+enum-known-self c = search needs
+
+enum-known-self-2 : tie.Need-enum-known-self-2
+enum-known-self-2 c = search needs
+
+enum-known-self-3 : tie.Need-enum-known-self-3
+enum-known-self-3 c = search needs
+
+returns : tie.Need-returns
+returns c = search needs
+
+returns-2 : tie.Need-returns-2
+returns-2 c = rw (c .before .self2 .given .1)
+
+returns-3 : tie.Need-returns-3
+returns-3 c = search needs
+
+pub head-spec : {M : Type 1} → statement M
+head-spec =
+    tie.close
+    (tie.spec enum-known-self enum-known-self-2 enum-known-self-3 returns returns-2 returns-3)

@@ -1,0 +1,87 @@
+use borrow.Author.Needs.{needs}
+use Rattle.select.proofs.Selection.row_span.Statement.{statement}
+use Rattle.select.proofs.Selection.row_span.Tie as tie
+use Rattle.select.proofs.Selection.row_span.Reads as reads
+use Rattle.select.proofs.Selection.row_span.Lts as lts
+use Rattle.select.proofs.shapes.block_span.Reads as block-span-reads
+use Rattle.select.proofs.shapes.char_span.Reads as char-span-reads
+use Rattle.select.proofs.shapes.line_span.Reads as line-span-reads
+use Rattle.text.proofs.Col.max.Reads as Col-max-reads
+use Rattle.text.proofs.Col.min.Reads as Col-min-reads
+use Rattle.text.proofs.Position.max.Reads as Position-max-reads
+use Rattle.text.proofs.Position.min.Reads as Position-min-reads
+use Rattle.text.proofs.Row.max.Reads as Row-max-reads
+use Rattle.text.proofs.Row.min.Reads as Row-min-reads
+
+enum-known-self : tie.Need-enum-known-self
+enum-known-self c = search needs
+
+min-requires : tie.Need-min-requires
+min-requires c κs = search needs
+
+max-requires : tie.Need-max-requires
+max-requires c κs = search needs
+
+char-span-requires : tie.Need-char-span-requires
+char-span-requires c κs = search needs
+
+enum-known-self-2 : tie.Need-enum-known-self-2
+enum-known-self-2 c = search needs
+
+min-requires-2 : tie.Need-min-requires-2
+min-requires-2 c κs = search needs
+
+max-requires-2 : tie.Need-max-requires-2
+max-requires-2 c κs = search needs
+
+line-span-requires : tie.Need-line-span-requires
+line-span-requires c κs = search needs
+
+enum-known-self-3 : tie.Need-enum-known-self-3
+enum-known-self-3 c = search needs
+
+min-requires-3 : tie.Need-min-requires-3
+min-requires-3 c κs = search needs
+
+max-requires-3 : tie.Need-max-requires-3
+max-requires-3 c κs = search needs
+
+min-requires-4 : tie.Need-min-requires-4
+min-requires-4 c κs = search needs
+
+max-requires-4 : tie.Need-max-requires-4
+max-requires-4 c κs = search needs
+
+block-span-requires : tie.Need-block-span-requires
+block-span-requires c κs = search needs
+
+returns : tie.Need-returns
+returns c = rw (c .char-span .ensures, c .before .before .before .before .self .given .1, c .before .max .ensures, c .before .before .min .ensures)
+
+returns-2 : tie.Need-returns-2
+returns-2 c = rw (c .line-span .ensures, c .before .before .before .before .self2 .given .1, c .before .max2 .ensures, c .before .before .min2 .ensures)
+
+returns-3 : tie.Need-returns-3
+returns-3 c = rw (c .block-span .ensures, c .before .before .before .before .before .before .self3 .given .1, c .before .max4 .ensures, c .before .before .min4 .ensures, c .before .before .before .max3 .ensures, c .before .before .before .before .min3 .ensures)
+
+pub row-span-spec : {M : Type 1} → statement M
+row-span-spec =
+    tie.close
+    (tie.spec
+    enum-known-self
+    min-requires
+    max-requires
+    char-span-requires
+    enum-known-self-2
+    min-requires-2
+    max-requires-2
+    line-span-requires
+    enum-known-self-3
+    min-requires-3
+    max-requires-3
+    min-requires-4
+    max-requires-4
+    block-span-requires
+    returns
+    returns-2
+    returns-3)

@@ -1,0 +1,4 @@
+pub mod Sels
+pub mod Selections
+pub mod Answers
+pub mod Theorems
