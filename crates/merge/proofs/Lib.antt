@@ -1,0 +1,12 @@
+pub mod Pairs
+pub mod Sorted
+pub mod Collapsed
+pub mod Ties
+pub mod Alone
+pub mod Halves
+pub mod Flats
+pub mod Weaves
+pub mod Turns
+pub mod Calls
+pub mod Theorems
+pub mod Examples

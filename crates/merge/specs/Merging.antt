@@ -1,0 +1,27 @@
+-- What merging makes of some selections.
+use mathlib.Core.Bool.{Bool, cond}
+use mathlib.Core.List.{List, [], _∷_}
+use Rattle.text.specs.Rows.{upto, earlier, later}
+use Rattle.select.specs.declared.Sel.{Sel}
+use Rattle.select.specs.Sels.{sel, start, end, overlaps}
+use Rattle.merge.specs.Sorting.{sorted}
+
+-- "sorts stably by start"
+abbrev pub byStart : Sel → Sel → Bool
+byStart s t = upto (start s) (start t)
+
+-- "a merged one runs forward"
+abbrev pub mergeTwo : Sel → Sel → Sel
+mergeTwo s t = sel (earlier (start s) (start t)) (later (end s) (end t))
+
+-- "then merges those sharing even one position": those left, after the last one so far
+unfoldable pub collapsed : Sel → List Sel → List Sel
+collapsed last [] = last ∷ []
+collapsed last (s ∷ ss) = cond (overlaps last s) (collapsed (mergeTwo last s) ss) (last ∷ collapsed s ss)
+
+unfoldable pub collapse : List Sel → List Sel
+collapse [] = []
+collapse (s ∷ ss) = collapsed s ss
+
+abbrev pub merged : List Sel → List Sel
+merged l = collapse (sorted byStart l)
