@@ -1,25 +1,26 @@
 -- One chunk of a block put in, and then the others.
-use mathlib.Core.Path.{_≡_, refl, sym, _∙_, ap}
+use mathlib.Core.Path.{_≡_, refl, _∙_, ap}
 use mathlib.Core.List.{List, [], _∷_, _++_, append-assoc, append-nil}
 use Prim.Native.Nat.{ℕ, zero, suc, _+_, _-_, _≤_, _<_, min}
 use native.Mathlib.Nat.{sub-eq-zero-of-le, min-eq-left, min-eq-right}
 use native.Mathlib.Decide.{decLe}
 use native.Mathlib.Omega.{arith}
-use lib.ListN.{length, take, drop, getD, replicate, length-append, length-take, length-drop, length-replicate, drop-of-length-le, take-append-drop}
+use lib.ListN.{length, take, drop, getD, replicate, length-append, length-replicate, drop-of-length-le}
 use lib.Seq.{take-all, take-length, drop-length}
 use Rattle.text.specs.declared.Position.{Position}
 use Rattle.text.specs.declared.Place.{Place}
-use Rattle.text.specs.Rows.{place, Line, line, lines, unlines, at, rowCount, lastRow, rowLen, clamp, offset, spliced}
+use Rattle.text.specs.Rows.{place, Line, line, lines, at, rowCount, lastRow, rowLen, clamp, offset, spliced}
 use Rattle.text.specs.Text.{isLF, all}
 use Rattle.promise.proofs.Lists.{next}
-use Rattle.text.proofs.Laws.{unlines-lines, count-last}
+use Rattle.text.proofs.Laws.{count-last}
 use Rattle.text.proofs.Alls.{all-append}
-use Rattle.text.proofs.Ended.{notLF, Plain, unlines-append}
+use Rattle.text.proofs.Ended.{notLF, Plain}
 use Rattle.text.proofs.Changes.{rowOf, row-from}
 use Rattle.text.proofs.Spots.{offset-row}
 use Rattle.edit.specs.Edits.{Edited, put, putAll, padsOf, pieces, blockInserted}
-use Rattle.edit.specs.Refusals.{isSpace, spaces, sum}
+use Rattle.edit.specs.Refusals.{isSpace, spaces}
 use Rattle.edit.proofs.Blocks.{padsOf-length}
+use Rattle.edit.proofs.Sizes.{growth}
 use Rattle.blocks.specs.Blocks.{putAt}
 use Rattle.text.proofs.Turns.{newRow, Turned, below-turned, count-turned, from-turned}
 
@@ -105,37 +106,6 @@ pieces-length (n ∷ ns) x = ap suc (pieces-length ns (drop n x))
 pub pads-length : (t : List ℕ) (r c : ℕ) (x ns : List ℕ) → length (inserted t r c x ns .inverse .second) ≡ length ns
 unfolding blockInserted
 pads-length t r c x ns = padsOf-length c (pieces ns x) (drop r (lines isLF t)) ∙ pieces-length ns x
-
--- how many characters come into these rows
-unfoldable pub growth : ℕ → List ℕ → List (Line ℕ) → ℕ
-growth c [] rs = 0
-growth c (n ∷ ns) [] = 0
-growth c (n ∷ ns) (r ∷ rs) = (c - length (r .body)) + n + growth c ns rs
-
-put-length : (c : ℕ) (k b : List ℕ) → length (put 32 c k b) ≡ length b + ((c - length b) + length k)
-put-length c k b =
-    let m = min c (length b) in
-    let g = replicate (c - length b) 32 ++ k in
-    ap length (put-spliced c k b) ∙ omega (arith, length-append (take m b) (g ++ drop m b), length-append g (drop m b), length-take m b, length-drop m b, length-append (replicate (c - length b) 32) k, length-replicate {A = ℕ} (c - length b) 32)
-
-putAll-length : (c : ℕ) (ns x : List ℕ) (rs : List (Line ℕ)) → sum ns ≤ length x → length (unlines (putAll 32 c (pieces ns x) rs)) ≡ length (unlines rs) + growth c ns rs
-unfolding putAll pieces growth unlines sum
-putAll-length c [] x rs h = omega arith
-putAll-length c (n ∷ ns) x [] h = omega arith
-putAll-length c (n ∷ ns) x (r ∷ rs) h =
-    let k = take n x in
-    let b = put 32 c k (r .body) in
-    let R = unlines (putAll 32 c (pieces ns (drop n x)) rs) in
-    omega (arith, putAll-length c ns (drop n x) rs (omega (arith, length-drop n x)), put-length c k (r .body), length-take n x, length-append b (r .after ++ R), length-append (r .after) R, length-append (r .body) (r .after ++ unlines rs), length-append (r .after) (unlines rs))
-
-pub inserted-length : (t : List ℕ) (r c : ℕ) (x ns : List ℕ) → sum ns ≤ length x → length (inserted t r c x ns .text) ≡ length t + growth c ns (drop r (lines isLF t))
-unfolding blockInserted
-inserted-length t r c x ns h =
-    let L = lines isLF t in
-    let S = putAll 32 c (pieces ns x) (drop r L) in
-    let w : length t ≡ length (unlines (take r L)) + length (unlines (drop r L)) =
-    ap length (sym (unlines-lines isLF t) ∙ ap unlines (sym (take-append-drop r L)) ∙ unlines-append (take r L) (drop r L)) ∙ length-append (unlines (take r L)) (unlines (drop r L)) in
-    omega (arith, ap length (unlines-append (take r L) S), length-append (unlines (take r L)) (unlines S), putAll-length c ns x (drop r L) h, w)
 
 -- the next row's share
 pub growth-next : (t : List ℕ) (r c k : ℕ) (ns : List ℕ) → k < length ns → r + k ≤ lastRow isLF t

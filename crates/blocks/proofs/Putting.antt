@@ -18,9 +18,10 @@ use Rattle.utf8.proofs.Stores.{stored-more, stored-rest, stored-end}
 use Rattle.splice.specs.Splice.{gapOpened}
 use Rattle.edit.specs.Edits.{putAll, padsOf, pieces, blockInserted}
 use Rattle.edit.specs.Refusals.{sum}
+use Rattle.edit.proofs.Sizes.{blockInserted-length}
 use Rattle.blocks.specs.declared.Put.{Put}
 use Rattle.blocks.specs.Blocks.{putAt, Left, left, leftBy}
-use Rattle.blocks.proofs.Puts.{inserted, pads-length, padAt, inserted-length, put-text, put-pads, put-count}
+use Rattle.blocks.proofs.Puts.{inserted, pads-length, padAt, put-text, put-pads, put-count}
 
 pub record Putting (b₀ : List ℕ) (used r c : ℕ) (x ns q₀ b q : List ℕ) (long from k : ℕ) : Type 0 where
   pub within : k ≤ length ns
@@ -103,7 +104,7 @@ module _ (b₀ : List ℕ) (used r c : ℕ) (x ns q₀ b q : List ℕ) (long fro
     -- the text grows to the whole, so a turn has room if the whole has
     pub turn-room : long + (pad + n) ≤ length (inserted (take used b₀) r c x ns .text)
     turn-room =
-        omega (arith, v-length, ap length text-next, inserted-length v (r + (k + 1)) c (drop (from + n) x) (drop (k + 1) ns) (omega (arith, left-next, length-drop (from + n) x)))
+        omega (arith, v-length, ap length text-next, blockInserted-length v (at (r + (k + 1)) c) (drop (from + n) x) (drop (k + 1) ns) (omega (arith, left-next, length-drop (from + n) x)))
 
     -- b₁ is the buffer after the splice, and q₁ the pads after the store
     pub putting-more : (b₁ q₁ : List ℕ) → b₁ ≡ renewed b long v → q₁ ≡ set q k pad → long + (pad + n) ≤ length b → length ns ≤ length q₀

@@ -5,15 +5,14 @@ use Prim.Native.Nat.{ℕ, suc, _+_, _-_, _≤_, _<_, min}
 use native.Mathlib.Nat.{add-zero, zero-add, add-assoc, min-eq-left, min-eq-right}
 use native.Mathlib.Decide.{decLe}
 use native.Mathlib.Omega.{arith}
-use lib.ListN.{length, take, drop, getD, length-append, length-take, length-drop, length-map, drop-of-length-le, take-append-drop}
+use lib.ListN.{length, take, drop, getD, length-append, length-take, length-drop, length-map, drop-of-length-le}
 use lib.Seq.{paste, slice, take-all, take-append-le, drop-drop, drop-append-le, drop-append-add, getD-drop, length-take-le}
 use Rattle.promise.proofs.Lists.{next, drop-take}
 use Rattle.text.specs.declared.Position.{Position}
 use Rattle.text.specs.declared.Span.{Span}
 use Rattle.text.specs.Rows.{Line, line, lines, unlines, at, rowCount, lastRow, rowLen, rowStart, span, offset, spliced, charAt}
 use Rattle.text.specs.Text.{isLF, all}
-use Rattle.text.proofs.Laws.{unlines-lines}
-use Rattle.text.proofs.Ended.{Plain, unlines-append}
+use Rattle.text.proofs.Ended.{Plain}
 use Rattle.text.proofs.Spots.{offset-le, offset-row}
 use Rattle.text.proofs.Changes.{rowOf, row-from, text-around}
 use Rattle.text.proofs.Turns.{newRow, Turned, below-turned, count-turned, from-turned}
@@ -21,6 +20,7 @@ use Rattle.splice.specs.Splice.{gap, gapRemoved}
 use Rattle.edit.specs.Edits.{Edited, cutAll, chunksOf, chunksDeleted}
 use Rattle.edit.specs.Refusals.{isSpace, spaces}
 use Rattle.edit.proofs.Blocks.{chunksOf-length, chunks-le}
+use Rattle.edit.proofs.Sizes.{loss, chunksDeleted-length}
 use Rattle.blocks.proofs.Puts.{row-there}
 use Rattle.chunks.specs.declared.Cut.{Cut}
 use Rattle.chunks.specs.Chunks.{cutAt, sizesOf}
@@ -154,42 +154,6 @@ module _ (t : List ℕ) (r c w : ℕ) (ws ds : List ℕ) (h : r ≤ lastRow isLF
 
 -- ---- sizes
 
--- how many characters go from these rows
-unfoldable pub loss : ℕ → List ℕ → List ℕ → List (Line ℕ) → ℕ
-loss c [] ds rs = 0
-loss c (w ∷ ws) ds [] = 0
-loss c (w ∷ ws) ds (r ∷ rs) = (min (c + w) (length (r .body)) - min (c - getD ds 0 0) (length (r .body))) + loss c ws (drop 1 ds) rs
-
-lost-row : (c d w : ℕ) (b : List ℕ) → length (take (c - d) b ++ drop (c + w) b) + (min (c + w) (length b) - min (c - d) (length b)) ≡ length b
-lost-row c d w b = omega (arith, length-append (take (c - d) b) (drop (c + w) b), length-take (c - d) b, length-drop (c + w) b)
-
-added : (p q b n l a m s L : ℕ) → p ≡ b + (a + m) → q ≡ L + (a + l) → b + n ≡ L → m + s ≡ l → p + (n + s) ≡ q
-added p q b n l a m s L x y k i = omega arith
-
-cutAll-length : (c : ℕ) (ws ds : List ℕ) (rs : List (Line ℕ)) → length (unlines (cutAll c ws ds rs)) + loss c ws ds rs ≡ length (unlines rs)
-unfolding cutAll loss unlines
-cutAll-length c [] ds rs = omega arith
-cutAll-length c (w ∷ ws) ds [] = omega arith
-cutAll-length c (w ∷ ws) ds (r ∷ rs) =
-    let d = getD ds 0 0 in
-    let b = take (c - d) (r .body) ++ drop (c + w) (r .body) in
-    let R = unlines (cutAll c ws (drop 1 ds) rs) in
-    let n : ℕ = min (c + w) (length (r .body)) - min (c - d) (length (r .body)) in
-    let k : length b + n ≡ length (r .body) = lost-row c d w (r .body) in
-    let i : length R + loss c ws (drop 1 ds) rs ≡ length (unlines rs) = cutAll-length c ws (drop 1 ds) rs in
-    let x : length (b ++ (r .after ++ R)) ≡ length b + (length (r .after) + length R) = length-append b (r .after ++ R) ∙ ap (_+_ (length b)) (length-append (r .after) R) in
-    let y : length (r .body ++ (r .after ++ unlines rs)) ≡ length (r .body) + (length (r .after) + length (unlines rs)) = length-append (r .body) (r .after ++ unlines rs) ∙ ap (_+_ (length (r .body))) (length-append (r .after) (unlines rs)) in
-    added (length (b ++ (r .after ++ R))) (length (r .body ++ (r .after ++ unlines rs))) (length b) n (length (unlines rs)) (length (r .after)) (length R) (loss c ws (drop 1 ds) rs) (length (r .body)) x y k i
-
-pub deleted-length : (t : List ℕ) (r c : ℕ) (ws ds : List ℕ) → length (deleted t r c ws ds .text) + loss c ws ds (drop r (lines isLF t)) ≡ length t
-unfolding chunksDeleted
-deleted-length t r c ws ds =
-    let L = lines isLF t in
-    let S = cutAll c ws ds (drop r L) in
-    let w : length t ≡ length (unlines (take r L)) + length (unlines (drop r L)) =
-    ap length (sym (unlines-lines isLF t) ∙ ap unlines (sym (take-append-drop r L)) ∙ unlines-append (take r L) (drop r L)) ∙ length-append (unlines (take r L)) (unlines (drop r L)) in
-    omega (arith, ap length (unlines-append (take r L) S), length-append (unlines (take r L)) (unlines S), cutAll-length c ws ds (drop r L), w)
-
 -- how long the chunks of these rows are together
 abbrev pub taken : ℕ → List ℕ → List (Line ℕ) → ℕ
 taken c ws rs = length (flatten (chunksOf c ws rs))
@@ -287,12 +251,12 @@ module _ {t : List ℕ} {r c : ℕ} {ws ds : List ℕ} {gone payload k : ℕ} (s
 module _ {t : List ℕ} {r c : ℕ} {ws ds : List ℕ} {gone payload k : ℕ} (s : Sizing t r c ws ds gone payload k) where
   pub sizing-bounds : (gone ≤ length t) × (payload ≤ length t)
   sizing-bounds =
-      (omega (arith, s .less, deleted-length t r c ws ds), omega (arith, s .more, chunks-le t c r ws))
+      (omega (arith, s .less, chunksDeleted-length t (at r c) ws ds), omega (arith, s .more, chunks-le t c r ws))
 
   pub sizing-done : length ws ≤ k → record { used = length t - gone; payload = payload } ≡ sizesOf (deleted t r c ws ds)
   sizing-done h =
       let a : gone ≡ loss c ws ds (drop r (lines isLF t)) = rw (drop-of-length-le ws h, loss-none c (drop k ds) (drop (r + k) (lines isLF t)), add-zero) at (s .less) in
       let b : payload ≡ taken c ws (drop r (lines isLF t)) = rw (drop-of-length-le ws h, taken-none c (drop (r + k) (lines isLF t)), add-zero) at (s .more) in
-      let n : length t - gone ≡ length (deleted t r c ws ds .text) = omega (arith, deleted-length t r c ws ds) in
+      let n : length t - gone ≡ length (deleted t r c ws ds .text) = omega (arith, chunksDeleted-length t (at r c) ws ds) in
       let m : payload ≡ length (deleted t r c ws ds .inverse .payload) = b ∙ sym (payload-length t r c ws ds) in
       rw (n, m)

@@ -7,6 +7,7 @@ pub mod Blocks
 pub mod Undo
 pub mod Calls
 pub mod Sums
+pub mod Sizes
 pub mod Wides
 pub mod Demand3
 pub mod Theorems

@@ -30,13 +30,13 @@ unfolding firstOf
 first-append [] ys a = refl
 first-append (x ∷ xs) ys a = rw (first-append xs ys a)
 
-first-passes : {A : Type 0} (xs : List (Bool × Refusal)) → done tt ≡ verdictOf xs → (a : Paper A) → firstOf xs a ≡ a
+pub first-passes : {A : Type 0} (xs : List (Bool × Refusal)) → done tt ≡ verdictOf xs → (a : Paper A) → firstOf xs a ≡ a
 unfolding firstOf
 first-passes [] e a = refl
 first-passes ((true, r) ∷ xs) e a = cc
 first-passes ((false, r) ∷ xs) e a = first-passes xs e a
 
-first-refuses : {A : Type 0} (xs : List (Bool × Refusal)) (n k : ℕ) → refused n k ≡ verdictOf xs → (a : Paper A) → firstOf xs a ≡ refused n k
+pub first-refuses : {A : Type 0} (xs : List (Bool × Refusal)) (n k : ℕ) → refused n k ≡ verdictOf xs → (a : Paper A) → firstOf xs a ≡ refused n k
 unfolding firstOf
 first-refuses [] n k e a = cc
 first-refuses ((true, r) ∷ xs) n k e a =

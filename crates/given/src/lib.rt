@@ -3,13 +3,14 @@ mod lists;
 mod numbers;
 mod payload;
 
-use crate::lists::lists_few;
-use crate::numbers::numbers_small;
-use crate::payload::payload_good;
 use edit::Edit;
 use edit::Refusal;
 use edit::Verdict;
 use edit::View;
+pub use lists::lists_few;
+pub use numbers::numbers_small;
+pub use numbers::small_position;
+pub use payload::payload_good;
 use text::is_text;
 ghost use mathlib.Core.List.{List};
 ghost use mathlib.Core.Path.{_≡_};
@@ -23,7 +24,7 @@ pub const NUMBER_LIMIT: u32 = 1_000_000;
 // The most items that a list has, rows that a block delete spans, and joins that a join makes.
 pub const LIST_LIMIT: usize = 256;
 
-fn first_refusal(small: bool, few: bool, good: bool) -> Verdict
+pub fn first_refusal(small: bool, few: bool, good: bool) -> Verdict
     ensures { λ r. ⌜ paperVerdict r ≡ verdictOf (laterTests small few good) ⌝ }
 {
     if !small {

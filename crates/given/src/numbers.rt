@@ -19,7 +19,7 @@ fn all_small(list: &[u32]) -> bool
     all
 }
 
-fn small_position(pos: Position) -> bool
+pub fn small_position(pos: Position) -> bool
     ensures { λ r. ⌜ r ≡ smallPosition pos ⌝ }
 {
     (pos.row.0 <= NUMBER_LIMIT) & (pos.col.0 <= NUMBER_LIMIT)

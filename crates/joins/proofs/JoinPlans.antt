@@ -26,11 +26,11 @@ use Rattle.text.proofs.Walks.{span-parts}
 use Rattle.joins.proofs.JoinTurns.{belowOf, rowTo, afterOf, turn, turn-size, row-size, turn-gap, turn-small, joins-none, Starts, joins-same, joined-joins, joins-cols, joins-flags, joins-payload}
 
 -- what stands from offset `at` on, after k rows below row r
-abbrev Walked : List ℕ → ℕ → ℕ → ℕ → Type 0
+abbrev pub Walked : List ℕ → ℕ → ℕ → ℕ → Type 0
 Walked t r k at = drop at t ≡ afterOf t r k ++ unlines (drop k (belowOf t r))
 
 module _ (t : List ℕ) (r : ℕ) (h : r ≤ lastRow isLF t) where
-  walked-none : Walked t r 0 (rowStart isLF t r + rowLen isLF t r)
+  pub walked-none : Walked t r 0 (rowStart isLF t r + rowLen isLF t r)
   unfolding rowStart rowLen
   walked-none =
       let A = unlines (take r (lines isLF t)) in
@@ -57,13 +57,13 @@ module _ (t : List ℕ) (r : ℕ) (h : r ≤ lastRow isLF t) where
       walked-past : drop (at + 1) t ≡ unlines (getD (belowOf t r) k (line [] []) ∷ drop (suc k) (belowOf t r))
       walked-past = sym (drop-drop 1 at t) ∙ ap (drop 1) walked-lf
 
-      walked-within : at < length t
+      pub walked-within : at < length t
       walked-within = omega (arith, simp length-drop at (ap length walked-lf))
 
-      walked-len : rowLen isLF (drop (at + 1) t) 0 ≡ length (getD (belowOf t r) k (line [] []) .body)
+      pub walked-len : rowLen isLF (drop (at + 1) t) 0 ≡ length (getD (belowOf t r) k (line [] []) .body)
       walked-len = rw walked-past (first-len next-row)
 
-      walked-more : Walked t r (suc k) (at + 1 + length (getD (belowOf t r) k (line [] []) .body))
+      pub walked-more : Walked t r (suc k) (at + 1 + length (getD (belowOf t r) k (line [] []) .body))
       unfolding unlines
       walked-more =
           let y = getD (belowOf t r) k (line [] []) in

@@ -27,7 +27,7 @@ ghost use Rattle.edit.specs.Call.{paperAnswer, planOf, lent, roomOf, outcome, f
 ghost use Rattle.joins.specs.Turns.{joinTurn, joins, slices, filled};
 
 // The join of a row of `left` characters, whose LF stands at `at`, with the next row.
-fn join_turn(text: &[u32], at: CharOffset, left: usize, spaced: bool) -> JoinTurn
+pub fn join_turn(text: &[u32], at: CharOffset, left: usize, spaced: bool) -> JoinTurn
     requires { ⌜ (at .0 < length (now text)) × (length (now text) ≤ textLimit) ⌝ }
     ensures { λ r. ⌜ r ≡ joinTurn (now (text .entry)) (at .0) left spaced ⌝ }
 {

@@ -4,6 +4,7 @@ mod splitting;
 
 use edit::Plan;
 pub use joining::join;
+pub use joining::join_turn;
 pub use splitting::split;
 use text::CharOffset;
 ghost use mathlib.Core.Path.{_≡_};
@@ -13,9 +14,9 @@ ghost use Rattle.text.specs.Rows.{spliced};
 ghost use Rattle.text.specs.Text.{renewed};
 
 // What a join puts in place of an LF, and how long the row is that it adds.
-struct JoinTurn {
-    gap: usize,
-    len: usize,
+pub struct JoinTurn {
+    pub gap: usize,
+    pub len: usize,
 }
 
 // Where a split puts its LF, and how many characters go there.

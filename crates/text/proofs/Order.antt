@@ -48,6 +48,12 @@ past-is p q e =
     (λ eq. ⊎-elim (λ ne. absurd (eqb-false _ _ ne (sym eq))) (λ gt. inr (eq, omega (arith, leb-false (p .col .0) (q .col .0) gt))) (d .1))
     (λ lt. inl lt) (eq-or-lt-of-le {n = q .row .0} {m = p .row .0} h)
 
+pub row-le : (p q : Position) → upto p q ≡ true → p .row .0 ≤ q .row .0
+row-le p q e = ⊎-elim (λ h. omega arith) (λ h. omega arith) (upto-is p q e)
+
+pub col-le : (p q : Position) → upto p q ≡ true → q .row .0 ≡ p .row .0 → p .col .0 ≤ q .col .0
+col-le p q e r = ⊎-elim (λ h. absurd (omega arith)) (λ h. h .1) (upto-is p q e)
+
 pub upto-self : (p : Position) → upto p p ≡ true
 upto-self p = is-upto p p (inr (refl, omega arith))
 

@@ -12,7 +12,7 @@ use Rattle.text.specs.declared.Position.{Position}
 use Rattle.text.specs.declared.Place.{Place}
 use Rattle.text.specs.Text.{isLF}
 use Rattle.text.specs.Rows.{Line, lines, unlines, at, upto, _⊕_, lastRow, rowLen, rowStart, clamp, offset, place, endOf}
-use Rattle.text.proofs.Laws.{start-lf, start-other, start-first, start-none, len-lf-next, len-other-next, len-none, len-le, last-le, end-append}
+use Rattle.text.proofs.Laws.{start-lf, start-other, start-first, start-none, len-lf, len-lf-next, len-other, len-other-next, len-none, len-le, last-none, last-lf, last-other, last-le, end-append, end-take}
 
 upto-added : (a b r c : ℕ) → upto (at a b) (at a b ⊕ at r c) ≡ true
 unfolding _⊕_
@@ -49,6 +49,13 @@ module _ {A : Type 0} (lf : A → Bool) where
       let n : min c (rowLen lf t r) ≡ c = omega arith in
       rw (m, n)
 
+  pub clamp-within : (t : List A) (p : Position) → clamp lf t p ≡ p → (p .row .0 ≤ lastRow lf t) × (p .col .0 ≤ rowLen lf t (p .row .0))
+  unfolding clamp
+  clamp-within t p e =
+      let a : min (p .row .0) (lastRow lf t) ≡ p .row .0 = ap (λ (x : Position). x .row .0) e in
+      let b : min (p .col .0) (rowLen lf t (min (p .row .0) (lastRow lf t))) ≡ p .col .0 = ap (λ (x : Position). x .col .0) e in
+      (omega arith, let c : min (p .col .0) (rowLen lf t (p .row .0)) ≡ p .col .0 = rw a at b in omega arith)
+
   pub offset-place : (t : List A) (r c : ℕ) → r ≤ lastRow lf t → c ≤ rowLen lf t r → offset lf t (at r c) ≡ rowStart lf t r + c
   unfolding offset
   offset-place t r c h k = rw (clamp-place t r c h k)
@@ -82,6 +89,28 @@ module _ {A : Type 0} (lf : A → Bool) where
   -- a text ends no later than a longer one
   pub end-upto : (s u : List A) → upto (endOf lf s) (endOf lf (s ++ u)) ≡ true
   end-upto s u = rw (end-append lf s u) (upto-added (endOf lf s .row .0) (endOf lf s .col .0) (endOf lf u .row .0) (endOf lf u .col .0))
+
+  -- positions of the text are in the order of their offsets
+  pub offset-order : (t : List A) (a b : Position) → clamp lf t a ≡ a → clamp lf t b ≡ b → offset lf t a ≤ offset lf t b → upto a b ≡ true
+  offset-order t a b ka kb h =
+      let x : ℕ = offset lf t a in
+      let y : ℕ = offset lf t b in
+      let e : take x t ++ drop x (take y t) ≡ take y t = ap (λ (l : List A). l ++ drop x (take y t)) (sym (take-take x y t h)) ∙ take-append-drop x (take y t) in
+      let p : endOf lf (take x t) ≡ a = end-take lf t a ∙ ka in
+      let q : endOf lf (take x t ++ drop x (take y t)) ≡ b = ap (endOf lf) e ∙ end-take lf t b ∙ kb in
+      rw (p, q) at (end-upto (take x t) (drop x (take y t)))
+
+  -- a row that is not the last ends before the next one starts
+  pub row-ends : (t : List A) (r : ℕ) → r < lastRow lf t → rowStart lf t r + rowLen lf t r < rowStart lf t (suc r)
+  row-ends [] r h = absurd (omega (arith, last-none lf))
+  row-ends (x ∷ t) r h = go (lf x) refl r h (λ r. row-ends t r)
+    where
+      go : (b : Bool) → lf x ≡ b → (r : ℕ) → r < lastRow lf (x ∷ t) → ((r : ℕ) → r < lastRow lf t → rowStart lf t r + rowLen lf t r < rowStart lf t (suc r))
+          → rowStart lf (x ∷ t) r + rowLen lf (x ∷ t) r < rowStart lf (x ∷ t) (suc r)
+      go true e zero h k = rw (start-first lf (x ∷ t), len-lf lf x t e, start-lf lf x t 0 e) (omega arith)
+      go true e (suc r) h k = rw (start-lf lf x t r e, start-lf lf x t (suc r) e, len-lf-next lf x t r e) (omega (arith, k r (omega (arith, last-lf lf x t e))))
+      go false e zero h k = rw (start-first lf (x ∷ t), len-other lf x t e, start-other lf x t 0 e) (omega (arith, k 0 (omega (arith, last-other lf x t e)), start-first lf t))
+      go false e (suc r) h k = rw (start-other lf x t r e, start-other lf x t (suc r) e, len-other-next lf x t r e) (omega (arith, k (suc r) (omega (arith, last-other lf x t e))))
 
 pub cut-parts : {A : Type 0} (a b : ℕ) (t : List A) → a ≤ b → take a t ++ (slice a b t ++ drop b t) ≡ t
 cut-parts {A} a b t h =

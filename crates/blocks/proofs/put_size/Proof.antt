@@ -4,8 +4,9 @@ use Prim.Native.Nat.{_+_, _-_, _*_, _≤_}
 use lib.ListN.{length, drop}
 use Rattle.text.specs.Text.{isLF}
 use Rattle.text.specs.Rows.{lines}
+use Rattle.edit.proofs.Sizes.{growth, blockInserted-length}
 use Rattle.blocks.specs.declared.Put.{Put}
-use Rattle.blocks.proofs.Puts.{padAt, growth, growth-next, growth-end, inserted-length, row-there}
+use Rattle.blocks.proofs.Puts.{padAt, growth-next, growth-end, row-there}
 use native.Mathlib.Omega.{arith}
 use borrow.Author.Needs.{needs}
 use Rattle.blocks.proofs.put_size.Statement.{statement}
@@ -60,7 +61,7 @@ loop-again : tie.Need-loop-again Inv-loop μ-loop
 loop-again c = let a = c .before .before .before .before .before .before .before .before .args in let l = c .before .before .before .before .loop in let q = c .before .before .put-splice .result .pad in let e : q ≡ padAt (a .text .now) (a .at .row .0 + l .k) (a .at .col .0) = ap (λ (p : Put). p .pad) (c .before .before .put-splice .ensures) in (omega arith, omega (arith, c .before .struct-known .given, c .shared-slice-known3 .given (l .k)), omega (arith, l .inv .2, e, growth-next (a .text .now) (a .at .row .0) (a .at .col .0) (l .k) (a .lens .now) (c .before .before .before .loop-test .taken) (row-there (a .text .now) (a .at .row .0) (l .k) (length (a .lens .now)) (c .before .before .before .loop-test .taken) (c .before .before .before .before .before .before .before .before .pre .3))))
 
 returns : tie.Need-returns Inv-loop μ-loop
-returns c = let a = c .before .before .before .before .before .args in let l = c .before .loop in λ x h. omega (arith, l .inv .2, growth-end (a .at .col .0) (l .k) (a .lens .now) (drop (a .at .row .0 + l .k) (lines isLF (a .text .now))) (omega arith), inserted-length (a .text .now) (a .at .row .0) (a .at .col .0) x (a .lens .now) h)
+returns c = let a = c .before .before .before .before .before .args in let l = c .before .loop in λ x h. omega (arith, l .inv .2, growth-end (a .at .col .0) (l .k) (a .lens .now) (drop (a .at .row .0 + l .k) (lines isLF (a .text .now))) (omega arith), blockInserted-length (a .text .now) (a .at) x (a .lens .now) h)
 
 pub put-size-spec : {M : Type 1} → statement M
 put-size-spec =

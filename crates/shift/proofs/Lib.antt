@@ -1,0 +1,11 @@
+pub mod Inserts
+pub mod Deletes
+pub mod Rectangles
+pub mod JoinCols
+pub mod Handed
+pub mod Verdicts
+pub mod Still
+pub mod Unchanged
+pub mod UnchangedRows
+pub mod Theorems
+pub mod Examples

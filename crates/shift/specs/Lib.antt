@@ -1,0 +1,5 @@
+pub mod Answers
+pub mod After
+pub mod Call
+pub mod Theorems
+pub mod Examples

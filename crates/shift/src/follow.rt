@@ -1,0 +1,56 @@
+// A position followed through an edit, kind by kind.
+use crate::Track;
+use crate::blocks::after_delete_block;
+use crate::blocks::after_delete_block_chunks;
+use crate::blocks::after_insert_block;
+use crate::flat::after_delete_char;
+use crate::flat::after_delete_lines;
+use crate::flat::after_insert;
+use crate::rows::after_join;
+use edit::Edit;
+use edit::MotionKind;
+use text::Position;
+ghost use mathlib.Core.Bool.{true};
+ghost use mathlib.Core.List.{[]};
+ghost use mathlib.Core.Path.{_≡_};
+ghost use Prim.Native.Nat.{_≤_};
+ghost use lib.ListN.{length};
+ghost use Rattle.text.specs.Text.{textLimit};
+ghost use Rattle.edit.specs.Refusals.{smallPosition, smallRange, smallOk, fewOk};
+ghost use Rattle.shift.specs.Answers.{paperTrack};
+ghost use Rattle.shift.specs.After.{afterDelete, shifted};
+ghost use Rattle.shift.specs.Call.{orderedRange, orderedOk};
+
+fn after_delete(pos: Position, start: Position, end: Position, kind: MotionKind) -> Position
+    requires { ⌜ (smallPosition pos ≡ true) × (smallRange start end kind ≡ true) × (orderedRange start end kind ≡ true) ⌝ }
+    ensures { λ r. ⌜ r ≡ afterDelete pos start end kind ⌝ }
+{
+    match kind {
+        MotionKind::Char => after_delete_char(pos, start, end),
+        MotionKind::Line => after_delete_lines(pos, start.row, end.row),
+        MotionKind::Block => after_delete_block(pos, start, end),
+    }
+}
+
+pub fn follow(text: &[u32], edit: Edit, payload: &[u32], first: &[u32], pos: Position) -> Track
+    requires { ⌜ (length (now text) ≤ textLimit) × (smallPosition pos ≡ true) × (smallOk edit (now first) [] ≡ true) × (fewOk (now text) edit (now payload) (now first) [] ≡ true) × (orderedOk edit ≡ true) ⌝ }
+    ensures { λ r. ⌜ paperTrack r ≡ shifted (now (text .entry)) edit (now (payload .entry)) (now (first .entry)) pos ⌝ }
+{
+    match edit {
+        Edit::InsertChar { at } => Track::To(after_insert(pos, at, payload)),
+        Edit::InsertStr { at } => Track::To(after_insert(pos, at, payload)),
+        Edit::DeleteRange { start, end, kind } => Track::To(after_delete(pos, start, end, kind)),
+        Edit::JoinLines {
+            row,
+            count,
+            with_space,
+        } => Track::To(after_join(pos, row, count, with_space, text)),
+        Edit::SplitLines { .. } => Track::Dropped,
+        Edit::Replace { start, end } => {
+            let deleted = after_delete_char(pos, start, end);
+            Track::To(after_insert(deleted, start, payload))
+        }
+        Edit::InsertBlock { at } => Track::To(after_insert_block(pos, at, first)),
+        Edit::DeleteBlockChunks { at } => Track::To(after_delete_block_chunks(pos, at, first)),
+    }
+}

@@ -1,0 +1,95 @@
+// Where positions and selections stand once an edit has been made. The text is the one before the edit.
+mod blocks;
+mod flat;
+mod follow;
+mod judging;
+mod rows;
+
+use crate::follow::follow;
+use crate::judging::judge;
+use edit::Edit;
+use edit::Refusal;
+use edit::Verdict;
+use edit::View;
+use given::small_position;
+use select::Sel;
+use text::Position;
+ghost use mathlib.Core.Path.{_≡_};
+ghost use lib.ListN.{take};
+ghost use Rattle.shift.specs.Answers.{paperShifted, paperSelShifted};
+ghost use Rattle.shift.specs.Call.{positionShifted, selShifted};
+
+// The position after the edit, or that it cannot be followed, or the refusal.
+pub enum Shifted {
+    At(Position),
+    Dropped,
+    Refused(Refusal),
+}
+
+// The same of a selection, which is dropped whole.
+pub enum SelShifted {
+    At(Sel),
+    Dropped,
+    Refused(Refusal),
+}
+
+// A position followed through an edit that is not refused.
+enum Track {
+    To(Position),
+    Dropped,
+}
+
+pub fn shift_position(
+    buffer: &[u32],
+    view: View,
+    edit: Edit,
+    payload: &[u32],
+    first: &[u32],
+    second: &[u32],
+    pos: Position,
+) -> Shifted
+    ensures { λ r. ⌜ paperShifted r ≡ positionShifted (now (buffer .entry)) (view .used) edit (now (payload .entry)) (now (first .entry)) (now (second .entry)) pos ⌝ }
+{
+    let used = view.used;
+    let small = small_position(pos);
+    let verdict = judge(buffer, used, edit, payload, first, second, small);
+    if let Verdict::Bad(why) = verdict {
+        return Shifted::Refused(why);
+    }
+    let tracked = follow(&buffer[0..used], edit, payload, first, pos);
+    match tracked {
+        Track::To(p) => Shifted::At(p),
+        Track::Dropped => Shifted::Dropped,
+    }
+}
+
+// Both ends are judged together, and each is followed as it stands: they are not put in order.
+pub fn shift_sel(
+    buffer: &[u32],
+    view: View,
+    edit: Edit,
+    payload: &[u32],
+    first: &[u32],
+    second: &[u32],
+    sel: Sel,
+) -> SelShifted
+    ensures { λ r. ⌜ paperSelShifted r ≡ selShifted (now (buffer .entry)) (view .used) edit (now (payload .entry)) (now (first .entry)) (now (second .entry)) sel ⌝ }
+{
+    let used = view.used;
+    let anchor = sel.anchor;
+    let head = sel.head;
+    let small = small_position(anchor) & small_position(head);
+    let verdict = judge(buffer, used, edit, payload, first, second, small);
+    if let Verdict::Bad(why) = verdict {
+        return SelShifted::Refused(why);
+    }
+    let fixed = follow(&buffer[0..used], edit, payload, first, anchor);
+    let Track::To(a) = fixed else {
+        return SelShifted::Dropped;
+    };
+    let moving = follow(&buffer[0..used], edit, payload, first, head);
+    let Track::To(h) = moving else {
+        return SelShifted::Dropped;
+    };
+    SelShifted::At(Sel::new(a, h))
+}
