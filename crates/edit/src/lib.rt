@@ -5,6 +5,7 @@ use text::Row;
 use utf8::ByteOffset;
 ghost use mathlib.Core.Path.{_≡_};
 ghost use Prim.Native.Nat.{suc, _-_, min, max};
+ghost use Rattle.edit.specs.Call.{numberOf};
 
 // A text's used length in its buffer, the cursor, and how many edits were accepted, modulo 2^64.
 pub struct View {
@@ -89,6 +90,26 @@ pub enum Refusal {
     NoRoom,
     NoRecord,
     BadFrame,
+}
+
+impl Refusal {
+    // Its number in the table of refusals.
+    pub fn number(self) -> u32
+        ensures { λ r. ⌜ r ≡ numberOf self ⌝ }
+    {
+        match self {
+            Refusal::BadText => 1,
+            Refusal::TooBig => 2,
+            Refusal::TooMany => 3,
+            Refusal::BadPayload => 4,
+            Refusal::BadUtf8(_) => 5,
+            Refusal::Reversed => 6,
+            Refusal::BeyondRow => 7,
+            Refusal::NoRoom => 8,
+            Refusal::NoRecord => 9,
+            Refusal::BadFrame => 10,
+        }
+    }
 }
 
 // Nothing is refused, or what is.

@@ -65,24 +65,9 @@ fn print_items(name: &[u8], items: &[u32], count: usize) {
     }
 }
 
-fn number_of(refusal: Refusal) -> u64 {
-    match refusal {
-        Refusal::BadText => 1,
-        Refusal::TooBig => 2,
-        Refusal::TooMany => 3,
-        Refusal::BadPayload => 4,
-        Refusal::BadUtf8(_) => 5,
-        Refusal::Reversed => 6,
-        Refusal::BeyondRow => 7,
-        Refusal::NoRoom => 8,
-        Refusal::NoRecord => 9,
-        Refusal::BadFrame => 10,
-    }
-}
-
 pub(crate) fn print_refused(refusal: Refusal, same: bool) {
     io::write_all(STDOUT_FILENO, b"refused");
-    print_number(number_of(refusal));
+    print_number(refusal.number() as u64);
     if same {
         io::write_all(STDOUT_FILENO, b", nothing changed");
     } else {

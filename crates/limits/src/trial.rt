@@ -4,12 +4,10 @@ use crate::show::print_refused;
 use apply::apply_edit;
 use edit::Answer;
 use edit::Edit;
-use edit::MotionKind;
 use edit::View;
-use text::Col;
 use text::LF;
-use text::Position;
-use text::Row;
+use trials::edit_of;
+use trials::position;
 ghost use Prim.Native.Nat.{_≤_, _<_};
 ghost use mathlib.Core.Path.{_≡_};
 ghost use lib.ListN.{length};
@@ -89,45 +87,8 @@ fn checksum_of(
     checksum(sum, second)
 }
 
-fn position(row: u32, col: u32) -> Position {
-    Position {
-        row: Row(row),
-        col: Col(col),
-    }
-}
-
-fn motion_of(kind: u32) -> MotionKind {
-    match kind {
-        2 => MotionKind::Char,
-        3 => MotionKind::Line,
-        _ => MotionKind::Block,
-    }
-}
-
-fn edit_of(n: [u32; NUMBERS]) -> Edit {
-    let start = position(n[5], n[6]);
-    let end = position(n[7], n[8]);
-    let row = Row(n[5]);
-    let count = n[7];
-    let kind = n[0];
-    match kind {
-        0 => Edit::InsertChar { at: start },
-        1 => Edit::InsertStr { at: start },
-        2..=4 => Edit::DeleteRange {
-            start,
-            end,
-            kind: motion_of(kind),
-        },
-        5 | 6 => Edit::JoinLines {
-            row,
-            count,
-            with_space: kind == 6,
-        },
-        7 => Edit::SplitLines { row },
-        8 => Edit::Replace { start, end },
-        9 => Edit::InsertBlock { at: start },
-        _ => Edit::DeleteBlockChunks { at: start },
-    }
+fn edit_in(n: [u32; NUMBERS]) -> Edit {
+    edit_of(n[0], position(n[5], n[6]), position(n[7], n[8]))
 }
 
 // The cursor handed in stands outside every text, which is no refusal.
@@ -184,7 +145,7 @@ fn call(n: [u32; NUMBERS], payload: &[u32], first: &[u32], second: &[u32]) {
     let answer = apply_edit(
         &mut text[0..text_end],
         view_of(n),
-        edit_of(n),
+        edit_in(n),
         payload,
         first,
         second,

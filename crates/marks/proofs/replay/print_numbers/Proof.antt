@@ -1,0 +1,53 @@
+use Prim.Native.Nat.{_-_, _≤_}
+use lib.ListN.{length}
+use borrow.Author.Needs.{needs}
+use Rattle.marks.proofs.replay.print_numbers.Statement.{statement}
+use Rattle.marks.proofs.replay.print_numbers.Tie as tie
+use Rattle.marks.proofs.replay.print_numbers.Reads as reads
+use Rattle.marks.proofs.replay.print_numbers.Lts as lts
+use Rattle.marks.proofs.replay.print_item.Reads as print-item-reads
+
+abbrev Inv-loop : tie.InvT-loop
+Inv-loop numbers i₀ i = i ≤ length numbers
+
+abbrev μ-loop : tie.MeasureT-loop
+μ-loop numbers i₀ i = length numbers - i
+
+loop-holds : tie.Need-loop-holds Inv-loop μ-loop
+loop-holds c = search needs
+
+mul-print-item : tie.Need-mul-print-item Inv-loop μ-loop
+mul-print-item c = search needs
+
+shared-slice-read-print-item : tie.Need-shared-slice-read-print-item Inv-loop μ-loop
+shared-slice-read-print-item c = search needs
+
+print-item-requires : tie.Need-print-item-requires Inv-loop μ-loop
+print-item-requires c κs = search needs
+
+add-i : tie.Need-add-i Inv-loop μ-loop
+add-i c = search needs
+
+loop-less : tie.Need-loop-less Inv-loop μ-loop
+loop-less c = search needs
+
+loop-again : tie.Need-loop-again Inv-loop μ-loop
+loop-again c = search needs
+
+returns : tie.Need-returns Inv-loop μ-loop
+returns c = search needs
+
+pub print-numbers-spec : {M : Type 1} → statement M
+print-numbers-spec =
+    tie.close
+    (tie.spec
+    Inv-loop
+    μ-loop
+    loop-holds
+    mul-print-item
+    shared-slice-read-print-item
+    print-item-requires
+    add-i
+    loop-less
+    loop-again
+    returns)
