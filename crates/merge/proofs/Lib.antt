@@ -3,8 +3,8 @@ pub mod Sorted
 pub mod Collapsed
 pub mod Ties
 pub mod Alone
-pub mod Halves
 pub mod Flats
+pub mod Halves
 pub mod Weaves
 pub mod Turns
 pub mod Calls
