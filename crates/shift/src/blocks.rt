@@ -37,16 +37,20 @@ pub fn after_insert_block(pos: Position, at: Position, lens: &[u32]) -> Position
     requires { ⌜ (pos .col .0 ≤ 1_000_000) × T (all small (now lens)) ⌝ }
     ensures { λ r. ⌜ r ≡ afterInsertBlock pos at (now (lens .entry)) ⌝ }
 {
-    if (pos.row.0 < at.row.0) | (pos.col.0 < at.col.0) {
+    let row = pos.row.0;
+    let col = pos.col.0;
+    let top = at.row.0;
+    let left = at.col.0;
+    if (row < top) | (col < left) {
         return pos;
     }
-    let k = (pos.row.0 - at.row.0) as usize;
+    let k = (row - top) as usize;
     if lens.len() <= k {
         return pos;
     }
     Position {
-        row: Row(pos.row.0),
-        col: Col(pos.col.0 + lens[k]),
+        row: Row(row),
+        col: Col(col + lens[k]),
     }
 }
 
@@ -54,22 +58,26 @@ pub fn after_insert_block(pos: Position, at: Position, lens: &[u32]) -> Position
 pub fn after_delete_block_chunks(pos: Position, at: Position, widths: &[u32]) -> Position
     ensures { λ r. ⌜ r ≡ afterDeleteBlockChunks pos at (now (widths .entry)) ⌝ }
 {
-    if (pos.row.0 < at.row.0) | (pos.col.0 <= at.col.0) {
+    let row = pos.row.0;
+    let col = pos.col.0;
+    let top = at.row.0;
+    let left = at.col.0;
+    if (row < top) | (col <= left) {
         return pos;
     }
-    let i = (pos.row.0 - at.row.0) as usize;
+    let i = (row - top) as usize;
     if widths.len() <= i {
         return pos;
     }
     let width = widths[i];
-    if width <= pos.col.0 - at.col.0 {
+    if width <= col - left {
         return Position {
-            row: Row(pos.row.0),
-            col: Col(pos.col.0 - width),
+            row: Row(row),
+            col: Col(col - width),
         };
     }
     Position {
-        row: Row(pos.row.0),
-        col: Col(at.col.0),
+        row: Row(row),
+        col: Col(left),
     }
 }
