@@ -20,6 +20,7 @@ mod trial;
 
 use libc::STDIN_FILENO;
 use libc::STDOUT_FILENO;
+use lines::is_passed_over;
 use lines::part_at;
 use lines::read_numbers;
 use trial::NUMBERS;
@@ -30,13 +31,6 @@ fn is_label(line: &[u8]) -> bool {
         return false;
     }
     line[0] == b':'
-}
-
-fn is_passed_over(line: &[u8]) -> bool {
-    if line.len() == 0 {
-        return true;
-    }
-    line[0] == b'#'
 }
 
 fn print_label(label: &[u8]) {

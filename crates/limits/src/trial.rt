@@ -5,6 +5,7 @@ use apply::apply_edit;
 use edit::Answer;
 use edit::Edit;
 use edit::View;
+use lines::size;
 use text::LF;
 use trials::edit_of;
 use trials::position;
@@ -29,10 +30,6 @@ fn wide(x: u32) -> u64
     ensures { λ r. ⌜ r < 4294967296 ⌝ }
 {
     x as u64
-}
-
-fn size(x: u32) -> usize {
-    x as usize
 }
 
 fn upto(x: u32, most: usize) -> usize

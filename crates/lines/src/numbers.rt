@@ -1,5 +1,5 @@
 use crate::part::part_at;
-ghost use Prim.Native.Nat.{_≤_};
+ghost use Prim.Native.Nat.{_≤_, _<_};
 ghost use mathlib.Core.Path.{_≡_};
 ghost use lib.ListN.{length};
 
@@ -45,6 +45,13 @@ fn read_word(word: &[u8]) -> Word {
         i += 1;
     }
     Word::Number(value)
+}
+
+// A number as a length.
+pub fn size(x: u32) -> usize
+    ensures { λ r. ⌜ r < 4294967296 ⌝ }
+{
+    x as usize
 }
 
 // The numbers of a text, to the front of `out`, which has to have room for them.

@@ -22,3 +22,11 @@ pub fn part_at(text: &[u8], start: usize, stop: u8) -> Part
     }
     Part { end, next: end }
 }
+
+// Whether a line is empty or a comment.
+pub fn is_passed_over(line: &[u8]) -> bool {
+    if line.len() == 0 {
+        return true;
+    }
+    line[0] == b'#'
+}

@@ -1,5 +1,6 @@
 // Replays shifts, merges and row spans: reads a case from each line of standard input, as hexadecimal numbers in upper case, and
-// prints what the port answers, in decimal. A line that starts with # is passed over.
+// prints what the port answers, in decimal. A line that is empty or starts
+// with # is passed over.
 //     1 a shift     the edit's kind and its two positions as `trials` has them, a selection's anchor and head, the lengths of text,
 //                   payload and two lists, and these; printed is where the anchor goes, then where the selection does
 //     2 a merge     the numbers of the selections; printed are the count and the numbers of the merged ones
@@ -10,18 +11,12 @@ mod replay;
 use crate::replay::replay;
 use libc::STDIN_FILENO;
 use libc::STDOUT_FILENO;
+use lines::is_passed_over;
 use lines::part_at;
 use lines::read_numbers;
 
 // The most numbers of a line.
 const NUMBERS: usize = 64;
-
-fn is_passed_over(line: &[u8]) -> bool {
-    if line.len() == 0 {
-        return true;
-    }
-    line[0] == b'#'
-}
 
 fn replay_line(line: &[u8]) {
     if is_passed_over(line) {

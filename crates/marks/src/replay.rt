@@ -3,6 +3,7 @@ use edit::Edit;
 use edit::Refusal;
 use edit::View;
 use libc::STDOUT_FILENO;
+use lines::size;
 use merge::Merged;
 use merge::merge_overlapping;
 use select::RowSpan;
@@ -87,10 +88,6 @@ fn shift_both(text: &[u32], edit: Edit, payload: &[u32], first: &[u32], second: 
     print_sel_shifted(shift_sel(text, view, edit, payload, first, second, sel));
 }
 
-fn size(x: u32) -> usize {
-    x as usize
-}
-
 // Where a part of this length ends that starts at `start`, within the whole.
 fn end_of(start: usize, length: u32, whole: usize) -> usize
     requires { ⌜ start ≤ whole ⌝ }
@@ -112,13 +109,16 @@ struct Lengths {
     second: u32,
 }
 
+fn total(lengths: Lengths) -> usize {
+    size(lengths.text) + size(lengths.payload) + size(lengths.first) + size(lengths.second)
+}
+
 fn shift_over(edit: Edit, sel: Sel, lengths: Lengths, numbers: &[u32]) {
     let whole = numbers.len();
     let text_end = end_of(0, lengths.text, whole);
     let payload_end = end_of(text_end, lengths.payload, whole);
     let first_end = end_of(payload_end, lengths.first, whole);
-    let second_end = end_of(first_end, lengths.second, whole);
-    if second_end < whole {
+    if total(lengths) != whole {
         print_malformed();
         return;
     }
@@ -127,7 +127,7 @@ fn shift_over(edit: Edit, sel: Sel, lengths: Lengths, numbers: &[u32]) {
         edit,
         &numbers[text_end..payload_end],
         &numbers[payload_end..first_end],
-        &numbers[first_end..second_end],
+        &numbers[first_end..],
         sel,
     );
 }

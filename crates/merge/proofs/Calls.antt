@@ -15,7 +15,8 @@ use Rattle.merge.specs.Sorting.{sorted}
 use Rattle.merge.specs.Merging.{byStart, collapse, merged}
 use Rattle.merge.specs.Call.{Outcome, outcome, leaves, mergedIn}
 use Rattle.merge.proofs.Flats.{fours, length-flat, sels-flat, length-sels}
-use Rattle.merge.proofs.Weaves.{length-sorted, front-back}
+use Rattle.merge.proofs.Sorted.{length-sorted}
+use Rattle.merge.proofs.Weaves.{front-back}
 
 module _ (input out : List ℕ) where
   pub too-many : 4_096 < length input → outcome (refused 3 0) out ≡ mergedIn input out

@@ -1,7 +1,6 @@
--- Examples of merging, as the whole call: a slice of eight or twelve numbers into one of twelve that is full of 9.
-use mathlib.Core.List.{List, [], _∷_, _++_}
+-- Examples of merging, as the whole call, into a slice that is full of 9.
+use mathlib.Core.List.{[], _∷_}
 use mathlib.Core.Path.{_≡_}
-use Prim.Native.Nat.{ℕ}
 use lib.ListN.{replicate}
 use Rattle.promise.specs.Paper.{done, refused}
 use Rattle.merge.specs.Call.{outcome, mergedIn}

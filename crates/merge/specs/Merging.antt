@@ -19,9 +19,11 @@ unfoldable pub collapsed : Sel → List Sel → List Sel
 collapsed last [] = last ∷ []
 collapsed last (s ∷ ss) = cond (overlaps last s) (collapsed (mergeTwo last s) ss) (last ∷ collapsed s ss)
 
+-- the first is the last one so far
 unfoldable pub collapse : List Sel → List Sel
 collapse [] = []
 collapse (s ∷ ss) = collapsed s ss
 
+-- the two steps: "sorts stably by start .. then merges"
 abbrev pub merged : List Sel → List Sel
 merged l = collapse (sorted byStart l)

@@ -1,8 +1,9 @@
 -- The examples of specs/Examples.antt, computed.
 use mathlib.Core.Path.{refl}
 use Rattle.utf8.specs.Rfc3629.{scalar}
-use Rattle.text.specs.Rows.{onto, lines, rowCount, lastRow, rowLen}
+use Rattle.text.specs.Rows.{onto, lines, unlines, rowCount, lastRow, rowLen, rowStart, clamp, offset, endOf}
 use Rattle.text.specs.Text.{admissible, all, textOk}
+use Rattle.edit.specs.Edits.{inserted, charsDeleted, lineFrom, lineTo, linesDeleted, replaced, cutAll, chunksDeleted, rangeDeleted, editedBy}
 use Rattle.edit.specs.Refusals.{sum, smallRange, smallOk, fewRows, fewOk, payloadOk}
 use Rattle.edit.specs.Call.{firstOf}
 use Rattle.joins.specs.Turns.{gapLen}
@@ -51,5 +52,14 @@ first-refusals = record {
 }
 
 pub moves : Moves
-unfolding scalar onto lines rowCount lastRow rowLen admissible all textOk smallRange smallOk fewRows fewOk payloadOk firstOf afterInsert afterDeleteChar afterDeleteLines afterDeleteBlock afterDelete shifted orderedRange orderedOk positionShifted
-moves = record { cut = refl; same-letter = refl; empty-line = refl; past-row = refl }
+unfolding scalar onto lines unlines rowCount lastRow rowLen rowStart clamp offset endOf admissible all textOk smallRange smallOk fewRows fewOk payloadOk firstOf inserted charsDeleted lineFrom lineTo linesDeleted replaced cutAll chunksDeleted rangeDeleted editedBy afterInsert afterDeleteChar afterDeleteLines afterDeleteBlock afterDelete shifted orderedRange orderedOk positionShifted
+moves = record {
+  cut = refl;
+  cut-unchanged = refl;
+  same-letter = refl;
+  same-unchanged = refl;
+  empty-line = refl;
+  empty-unchanged = refl;
+  past-row = refl;
+  past-unchanged = refl;
+}

@@ -13,12 +13,12 @@ use lib.ListN.{length, take, drop, getD, length-take}
 use lib.Seq.{drop-cons, drop-drop, getD-drop, getD-take}
 use Rattle.text.specs.declared.Position.{Position}
 use Rattle.text.specs.declared.Span.{Span}
-use Rattle.text.specs.Rows.{Line, line, lines, at, lastRow, rowLen, rowStart, span}
+use Rattle.text.specs.Rows.{Line, line, lines, at, lastRow, rowLen, span}
 use Rattle.text.specs.Text.{isLF}
 use Rattle.joins.specs.declared.JoinTurn.{JoinTurn}
 use Rattle.joins.specs.Turns.{gapLen, joinTurn}
 use Rattle.joins.proofs.JoinTurns.{belowOf, below-count, Starts}
-use Rattle.joins.proofs.JoinPlans.{Walked, walked-none, walked-within, walked-len, walked-more}
+use Rattle.joins.proofs.JoinPlans.{Walked, walked-none, walked-within, walked-len, walked-more, starts-at}
 use Rattle.shift.specs.After.{startCols, afterJoin}
 
 -- ---- the list
@@ -52,9 +52,8 @@ pub starts-walk : (t : List ℕ) (r : ℕ) (f : Span) → f ≡ span isLF t r �
 unfolding span
 starts-walk t r f e h =
     let m : min r (lastRow isLF t) ≡ r = omega arith in
-    let s : f .start .0 ≡ rowStart isLF t r = ap (λ (g : Span). g .start .0) e ∙ rw m in
-    let n : f .end .0 ≡ rowStart isLF t r + rowLen isLF t r = ap (λ (g : Span). g .end .0) e ∙ rw m in
-    record { within = h; ends = n; long = omega arith }
+    let z : f .row .0 ≡ r = ap (λ (g : Span). g .row .0) e ∙ m in
+    rw z at (starts-at t f (e ∙ ap (span isLF t) (sym z)))
 
 pub walks-none : (t : List ℕ) (down : ℕ) (b : Bool) (end len : ℕ) → Walks t down b end len end len 0 0
 walks-none t down b end len r s h = record {

@@ -16,6 +16,7 @@ use Rattle.text.specs.Rows.{at, upto, lines, rowCount, lastRow, rowLen, clamp}
 use Rattle.text.specs.Text.{isLF}
 use Rattle.text.proofs.Spots.{clamp-within}
 use Rattle.text.proofs.Order.{past-is, upto-total}
+use Rattle.shift.proofs.Rectangles.{put-outside}
 use Rattle.shift.specs.After.{afterInsert, afterDeleteChar, afterDeleteBlock, startCols, afterJoin, afterInsertBlock, afterDeleteBlockChunks}
 
 pub same : (p : Position) (r c : ℕ) → r ≡ p .row .0 → c ≡ p .col .0 → at r c ≡ p
@@ -25,19 +26,13 @@ either-way : (b : Bool) (p q : Position) → q ≡ p → cond b p q ≡ p
 either-way true p q e = refl
 either-way false p q e = e
 
--- ---- before an insertion
-
-pub insert-before : (p q : Position) (x : List ℕ) → upto q p ≡ false → afterInsert p q x ≡ p
-unfolding afterInsert
-insert-before p q x e = rw e
+-- ---- before a block
 
 pub insert-block-above : (p q : Position) (f : List ℕ) → p .row .0 < q .row .0 → afterInsertBlock p q f ≡ p
-unfolding afterInsertBlock
-insert-block-above p q f h = rw (lt-ltb (p .row .0) (q .row .0) h)
+insert-block-above p q f h = sym (put-outside p q f (rw (lt-ltb (p .row .0) (q .row .0) h)))
 
 pub insert-block-before : (p q : Position) (f : List ℕ) → p .col .0 < q .col .0 → afterInsertBlock p q f ≡ p
-unfolding afterInsertBlock
-insert-block-before p q f h = rw (lt-ltb (p .col .0) (q .col .0) h, or-true)
+insert-block-before p q f h = sym (put-outside p q f (rw (lt-ltb (p .col .0) (q .col .0) h, or-true)))
 
 -- ---- over an edit of nothing
 

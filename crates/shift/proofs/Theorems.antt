@@ -1,5 +1,5 @@
 -- The theorems that specs/Theorems.antt states.
-use mathlib.Core.Path.{_≡_, refl, ap, _∙_}
+use mathlib.Core.Path.{_≡_, refl, ap, _∙_, sym}
 use mathlib.Core.Bool.{_&&_, not}
 use mathlib.Core.List.{List}
 use Prim.Native.Nat.{ℕ}
@@ -27,7 +27,8 @@ use Rattle.shift.specs.declared.SelShifted.the-variants as asSelShifted
 use Rattle.shift.specs.Answers.{Followed, to, dropped, paperShifted, paperSelShifted}
 use Rattle.shift.specs.After.{afterDeleteChar, afterDelete, shifted}
 use Rattle.shift.specs.Theorems.{KeepsBefore, Nothing, FollowsRange, UnchangedStays, SplitDrops, Settled}
-use Rattle.shift.proofs.Still.{insert-before, insert-block-above, insert-block-before, insert-nothing, delete-nothing, join-nothing, insert-block-nothing, delete-chunks-nothing}
+use Rattle.shift.proofs.Inserts.{insert-before}
+use Rattle.shift.proofs.Still.{insert-block-above, insert-block-before, insert-nothing, delete-nothing, join-nothing, insert-block-nothing, delete-chunks-nothing}
 use Rattle.shift.proofs.Unchanged.{insert-unchanged, chars-unchanged, lines-unchanged}
 use Rattle.shift.proofs.UnchangedRows.{join-unchanged, insert-block-unchanged, delete-chunks-unchanged, block-unchanged}
 
@@ -37,8 +38,8 @@ stays e = ap (λ (x : Position). to x) e
 pub keeps-before : KeepsBefore
 unfolding shifted
 keeps-before t q p x f = record {
-  insert-char = λ e. stays (insert-before p q x e);
-  insert-str = λ e. stays (insert-before p q x e);
+  insert-char = λ e. stays (sym (insert-before p q x e));
+  insert-str = λ e. stays (sym (insert-before p q x e));
   insert-block-above = λ h. stays (insert-block-above p q f h);
   insert-block-before = λ h. stays (insert-block-before p q f h);
 }

@@ -50,7 +50,7 @@ afterDeleteBlock p s e =
     (cond (ltb right (p .col .0)) (at (p .row .0) (p .col .0 - (right - left + 1)))
     (cond (leb left (p .col .0)) (at (p .row .0) left) p))
 
--- "`start_col[k]` is the column original row `row + k` begins at": of rows that are joined in turn onto one of `len` characters
+-- "`start_col[k]` is the column original row `row + k` begins at", where the first row below is row + 1: of rows that are joined in turn onto one of `len` characters
 unfoldable pub startCols : Bool → ℕ → List (Line ℕ) → List ℕ
 startCols b len [] = []
 startCols b len (r ∷ rs) =
@@ -79,6 +79,7 @@ afterDeleteBlockChunks p q widths =
     cond (ltb (p .row .0) (q .row .0) || leb (q .row .0 + length widths) (p .row .0) || leb (p .col .0) (q .col .0)) p
     (cond (leb (q .col .0 + width) (p .col .0)) (at (p .row .0) (p .col .0 - width)) (at (p .row .0) (q .col .0)))
 
+-- by the kind of motion
 unfoldable pub afterDelete : Position → Position → Position → MotionKind → Position
 afterDelete p s e Char = afterDeleteChar p s e
 afterDelete p s e Lines = afterDeleteLines p (s .row .0) (e .row .0)

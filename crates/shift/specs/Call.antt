@@ -4,7 +4,7 @@ use mathlib.Core.List.{List, [], _∷_}
 use Prim.Native.Nat.{ℕ}
 use lib.Dec.{leb}
 use lib.ListN.{take}
-use Rattle.promise.specs.Paper.{Paper, done, refused}
+use Rattle.promise.specs.Paper.{Paper, done}
 use Rattle.text.specs.declared.Position.{Position}
 use Rattle.text.specs.Rows.{upto}
 use Rattle.text.specs.Text.{textOk}
@@ -47,6 +47,7 @@ shiftTests buffer used e x f s small =
     ∷ (not (orderedOk e), Reversed)
     ∷ []
 
+-- "in order of checking", and then where `selection_shift.rs` has it
 unfoldable pub positionShifted : List ℕ → ℕ → Edit → List ℕ → List ℕ → List ℕ → Position → Paper (Followed Position)
 positionShifted buffer used e x f s p =
     firstOf (shiftTests buffer used e x f s (smallPosition p)) (done (shifted (take used buffer) e x f p))

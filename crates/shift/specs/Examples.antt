@@ -1,4 +1,4 @@
--- Examples of shifts, as the whole call: a text in a buffer with three places behind it. In a text "/" is LF, 10; a is 97, a space 32.
+-- Examples of shifts, as the whole call. In a text "/" is LF, 10; a is 97, a space 32.
 use mathlib.Core.Bool.{true, false}
 use mathlib.Core.List.{List, [], _∷_, _++_}
 use mathlib.Core.Path.{_≡_}
@@ -9,13 +9,14 @@ use Rattle.text.specs.declared.Position.{Position}
 use Rattle.text.specs.Rows.{at}
 use Rattle.edit.specs.declared.MotionKind.the-variants.{Char, Line as Lines, Block}
 use Rattle.edit.specs.declared.Edit.{Edit}
-use Rattle.edit.specs.declared.Edit.the-variants.{InsertChar, InsertStr, DeleteRange, JoinLines, SplitLines, Replace, InsertBlock, DeleteBlockChunks}
+use Rattle.edit.specs.declared.Edit.the-variants.{InsertStr, DeleteRange, JoinLines, SplitLines, Replace, InsertBlock, DeleteBlockChunks}
 use Rattle.edit.specs.Edits.{rowAt}
-use Rattle.select.specs.declared.Sel.{Sel}
 use Rattle.select.specs.Sels.{sel}
 use Rattle.shift.specs.Answers.{Followed, to, dropped}
 use Rattle.shift.specs.Call.{positionShifted, selShifted}
+use Rattle.shift.specs.Theorems.{Unchanged}
 
+-- in a buffer with three places behind the text
 abbrev pub shiftOf : List ℕ → Edit → List ℕ → List ℕ → Position → Paper (Followed Position)
 shiftOf t e x f p = positionShifted (t ++ replicate 3 7) (length t) e x f [] p
 
@@ -70,7 +71,7 @@ pub record FirstRefusals : Type 0 where
   pub reversed-replace : shiftOf [] (Replace (at 0 1) (at 0 0)) [] [] (at 0 0) ≡ refused 6 0
   pub reversed-char : shiftOf [] (DeleteRange (at 1 0) (at 0 0) Char) [] [] (at 1 1) ≡ refused 6 0
   pub reversed-line : shiftOf [] (DeleteRange (at 1 0) (at 0 0) Lines) [] [] (at 1 0) ≡ refused 6 0
-  -- "both ends of a selection judged together": a head too big is 2 before 257 columns are 3, and before a split drops
+  -- both ends of a selection are judged together: a head too big is 2 before 257 columns are 3, and before a split drops
   pub head-too-big : selShifted [] 0 (SplitLines (rowAt 0)) [] (replicate 257 0) [] (sel (at 0 0) (at 1_000_001 0)) ≡ refused 2 0
   pub split-too-big : selShifted [] 0 (SplitLines (rowAt 0)) [] [] [] (sel (at 0 1_000_001) (at 0 0)) ≡ refused 2 0
 
@@ -79,6 +80,10 @@ pub record FirstRefusals : Type 0 where
 -- row's end.
 pub record Moves : Type 0 where
   pub cut : Lands (97 ∷ 98 ∷ 99 ∷ []) (DeleteRange (at 0 2) (at 9 0) Char) [] [] (at 0 3) (at 0 2)
+  pub cut-unchanged : Unchanged (97 ∷ 98 ∷ 99 ∷ []) (DeleteRange (at 0 2) (at 9 0) Char) [] [] []
   pub same-letter : Lands (97 ∷ []) (Replace (at 0 0) (at 0 1)) (97 ∷ []) [] (at 0 0) (at 0 1)
+  pub same-unchanged : Unchanged (97 ∷ []) (Replace (at 0 0) (at 0 1)) (97 ∷ []) [] []
   pub empty-line : Lands [] (DeleteRange (at 0 0) (at 0 0) Lines) [] [] (at 1 0) (at 0 0)
+  pub empty-unchanged : Unchanged [] (DeleteRange (at 0 0) (at 0 0) Lines) [] [] []
   pub past-row : Lands (97 ∷ []) (DeleteRange (at 0 5) (at 0 5) Block) [] [] (at 0 9) (at 0 8)
+  pub past-unchanged : Unchanged (97 ∷ []) (DeleteRange (at 0 5) (at 0 5) Block) [] [] []

@@ -46,7 +46,8 @@ abbrev pub Nothing : Type 0
 Nothing = (t : List ℕ) (p : Position) (x f : List ℕ) → NothingMoves t p x f
 
 -- An edit that changes nothing moves no position of the text: every kind but SplitLines, which drops, and two for which it is not so
--- (see `Moves` in Examples.antt): a Replace, and a Char delete with an end outside of the text.
+-- (see `Moves` in Examples.antt): a Replace, and a Char delete with an end outside of the text. Ends are in order, as 6 has it, and
+-- the payload is one that 4 does not refuse.
 abbrev pub FollowsRange : List ℕ → Position → Position → MotionKind → Type 0
 FollowsRange t a b Char = Stands t a × Stands t b × (upto a b ≡ true)
 FollowsRange t a b Lines = a .row .0 ≤ b .row .0

@@ -15,7 +15,6 @@ use given::small_position;
 use select::Sel;
 use text::Position;
 ghost use mathlib.Core.Path.{_≡_};
-ghost use lib.ListN.{take};
 ghost use Rattle.shift.specs.Answers.{paperShifted, paperSelShifted};
 ghost use Rattle.shift.specs.Call.{positionShifted, selShifted};
 
