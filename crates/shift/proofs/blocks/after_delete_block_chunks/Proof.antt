@@ -10,7 +10,7 @@ returns : tie.Need-returns
 returns c = let a = c .before .args in cut-outside (a .pos) (a .at) (a .widths .now) (c .if1 .taken)
 
 sub-i : tie.Need-sub-i
-sub-i c = let a = c .before .args in not-above (a .pos) (a .at) (a .widths .now) _ (c .if1 .left)
+sub-i c = let a = c .before .args in omega (arith, not-above (a .pos) (a .at) (a .widths .now) _ (c .if1 .left))
 
 cast-i : tie.Need-cast-i
 cast-i c = search needs

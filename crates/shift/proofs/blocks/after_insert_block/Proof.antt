@@ -11,7 +11,7 @@ returns : tie.Need-returns
 returns c = let a = c .before .args in put-outside (a .pos) (a .at) (a .lens .now) (c .if1 .taken)
 
 sub-k : tie.Need-sub-k
-sub-k c = let a = c .before .args in not-above (a .pos) (a .at) (a .lens .now) _ (c .if1 .left)
+sub-k c = let a = c .before .args in omega (arith, not-above (a .pos) (a .at) (a .lens .now) _ (c .if1 .left))
 
 cast-k : tie.Need-cast-k
 cast-k c = search needs

@@ -32,7 +32,7 @@ returns-3 : tie.Need-returns-3
 returns-3 c = let a = c .before .before .before .before .before .args in delete-in-row (a .pos) (a .start) (a .end) (sym (c .before .before .before .before .le .ensures) ∙ c .before .before .before .if1 .left) (sym (c .before .before .le2 .ensures) ∙ not-false _ (c .before .if2 .left)) (c .if3 .taken)
 
 sub-t17 : tie.Need-sub-t17
-sub-t17 c = let a = c .before .before .before .before .before .args in row-le (a .start) (a .end) (c .before .before .before .before .before .pre .0)
+sub-t17 c = let a = c .before .before .before .before .before .args in omega (arith, row-le (a .start) (a .end) (c .before .before .before .before .before .pre .0))
 
 sub-t18 : tie.Need-sub-t18
 sub-t18 c = let a = c .before .before .before .before .before .args in omega (arith, row-le (a .end) (a .pos) (sym (c .before .before .le2 .ensures) ∙ not-false _ (c .before .if2 .left)))

@@ -46,7 +46,7 @@ add-t20 : tie.Need-add-t20
 add-t20 c = let a = c .before .before .before .before .before .before .before .before .before .args in omega (arith, c .before .before .before .before .before .last-row .ensures, last-le isLF (a .text .now))
 
 sub-t22 : tie.Need-sub-t22
-sub-t22 c = let a = c .before .before .before .before .before .before .before .before .before .args in col-le (a .at) (a .pos) (sym (c .before .before .before .before .before .before .before .le .ensures) ∙ not-false _ (c .before .before .before .before .before .before .if1 .left)) (c .before .before .before .before .if2 .left)
+sub-t22 c = let a = c .before .before .before .before .before .before .before .before .before .args in omega (arith, col-le (a .at) (a .pos) (sym (c .before .before .before .before .before .before .before .le .ensures) ∙ not-false _ (c .before .before .before .before .before .before .if1 .left)) (c .before .before .before .before .if2 .left))
 
 add-t23 : tie.Need-add-t23
 add-t23 c = let a = c .before .before .before .before .before .before .before .before .before .before .args in omega (arith, c .before .before .line-char-count .ensures, row-within isLF (a .text .now) (c .before .before .before .before .before .before .last-row .result .0))
