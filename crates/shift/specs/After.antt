@@ -50,7 +50,8 @@ afterDeleteBlock p s e =
     (cond (ltb right (p .col .0)) (at (p .row .0) (p .col .0 - (right - left + 1)))
     (cond (leb left (p .col .0)) (at (p .row .0) left) p))
 
--- "`start_col[k]` is the column original row `row + k` begins at", where the first row below is row + 1: of rows that are joined in turn onto one of `len` characters
+-- "`start_col[k]` is the column original row `row + k` begins at", where the first row below is row + 1: of rows that are joined in turn
+-- onto one of `len` characters
 unfoldable pub startCols : Bool → ℕ → List (Line ℕ) → List ℕ
 startCols b len [] = []
 startCols b len (r ∷ rs) =

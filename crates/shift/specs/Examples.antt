@@ -50,7 +50,7 @@ pub record Examples : Type 0 where
   pub block-left : Lands abcd (DeleteRange (at 1 2) (at 0 1) Block) [] [] (at 1 0) (at 1 0)
   pub block-inside : Lands abcd (DeleteRange (at 1 1) (at 0 0) Block) [] [] (at 1 1) (at 1 0)
   pub block-right : Lands abcd (DeleteRange (at 1 1) (at 0 0) Block) [] [] (at 0 2) (at 0 0)
-  -- a replace moves what stands at its start behind what it puts in
+  -- what stands at the end of a replace goes behind what it puts in
   pub replaced : Lands abcd (Replace (at 0 0) (at 0 1)) (97 ∷ 97 ∷ []) [] (at 0 1) (at 0 2)
   -- each row of a block has its own width
   pub block-second : Lands abcd (InsertBlock (at 0 1)) (88 ∷ 89 ∷ 89 ∷ []) (1 ∷ 2 ∷ []) (at 1 1) (at 1 3)
