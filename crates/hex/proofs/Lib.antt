@@ -1,0 +1,5 @@
+pub mod Digits
+pub mod Pairs
+pub mod Fills
+pub mod Calls
+pub mod Theorems

@@ -1,0 +1,22 @@
+use borrow.Author.Tests.{le-leb, lt-leb}
+use borrow.Author.Needs.{needs}
+use Rattle.hex.specs.Digits.{digitOf}
+use Rattle.hex.proofs.digit_of.Statement.{statement}
+use Rattle.hex.proofs.digit_of.Tie as tie
+
+add-result : tie.Need-add-result
+add-result c = search needs
+
+add-result-2 : tie.Need-add-result-2
+add-result-2 c = search needs
+
+returns : tie.Need-returns
+unfolding digitOf
+returns c = rw (le-leb _ _ (c .if1 .taken))
+
+returns-2 : tie.Need-returns-2
+unfolding digitOf
+returns-2 c = rw (lt-leb _ _ (c .if1 .left))
+
+pub digit-of-spec : {M : Type 1} → statement M
+digit-of-spec = tie.close (tie.spec add-result add-result-2 returns returns-2)

@@ -1,0 +1,3 @@
+pub mod Digits
+pub mod Calls
+pub mod Theorems
