@@ -1,6 +1,6 @@
 -- One chunk of a block put in, and then the others.
-use mathlib.Core.Path.{_≡_, refl, _∙_, ap}
-use mathlib.Core.List.{List, [], _∷_, _++_, append-assoc, append-nil}
+use mathlib.Core.Path.{_≡_, _∙_}
+use mathlib.Core.List.{List, _∷_, _++_, append-assoc, append-nil}
 use Prim.Native.Nat.{ℕ, zero, suc, _+_, _-_, _≤_, _<_, min}
 use native.Mathlib.Nat.{sub-eq-zero-of-le, min-eq-left, min-eq-right}
 use native.Mathlib.Decide.{decLe}
@@ -19,7 +19,7 @@ use Rattle.text.proofs.Changes.{rowOf, row-from}
 use Rattle.text.proofs.Spots.{offset-row}
 use Rattle.edit.specs.Edits.{Edited, put, putAll, padsOf, pieces, blockInserted}
 use Rattle.edit.specs.Refusals.{isSpace, spaces}
-use Rattle.edit.proofs.Blocks.{padsOf-length}
+use Rattle.edit.proofs.Blocks.{padsOf-length, pieces-length}
 use Rattle.edit.proofs.Sizes.{growth}
 use Rattle.blocks.specs.Blocks.{putAt}
 use Rattle.text.proofs.Turns.{newRow, Turned, below-turned, count-turned, from-turned}
@@ -97,11 +97,6 @@ module _ (t : List ℕ) (r c n : ℕ) (ns x : List ℕ) (h : r ≤ lastRow isLF 
   put-count = count-turned t r m m g h (omega arith) (omega arith) plain u turned
 
 -- ---- sizes
-
-pieces-length : (ns x : List ℕ) → length (pieces ns x) ≡ length ns
-unfolding pieces
-pieces-length [] x = refl
-pieces-length (n ∷ ns) x = ap suc (pieces-length ns (drop n x))
 
 pub pads-length : (t : List ℕ) (r c : ℕ) (x ns : List ℕ) → length (inserted t r c x ns .inverse .second) ≡ length ns
 unfolding blockInserted

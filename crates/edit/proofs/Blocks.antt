@@ -168,10 +168,20 @@ unfolding pieces flatten
 pieces-flatten [] = refl
 pieces-flatten (k ∷ ks) = rw (take-append-seam k (flatten ks), drop-append-seam k (flatten ks), pieces-flatten ks)
 
+pub pieces-length : (ns x : List ℕ) → length (pieces ns x) ≡ length ns
+unfolding pieces
+pieces-length [] x = refl
+pieces-length (n ∷ ns) x = ap suc (pieces-length ns (drop n x))
+
 pub pieces-lengths : (ns x : List ℕ) → sum ns ≤ length x → map length (pieces ns x) ≡ ns
 unfolding pieces sum
 pieces-lengths [] x h = refl
 pieces-lengths (n ∷ ns) x h = ap₂ {C = List ℕ} (λ a l. a ∷ l) (length-take n x ∙ omega arith) (pieces-lengths ns (drop n x) (omega (arith, length-drop n x)))
+
+pub flatten-pieces : (ns x : List ℕ) → length x ≤ sum ns → flatten (pieces ns x) ≡ x
+unfolding pieces flatten sum
+flatten-pieces [] x h = sym (drop-of-length-le x {i = 0} h)
+flatten-pieces (n ∷ ns) x h = rw (flatten-pieces ns (drop n x) (omega (arith, length-drop n x))) (take-append-drop n x)
 
 pub sum-lengths : (ks : Chunks) → sum (map length ks) ≡ length (flatten ks)
 unfolding sum flatten
@@ -214,6 +224,10 @@ module _ (f : ℕ → Bool) where
   each-unlines [] h = none
   each-unlines (r ∷ rs) h =
       more (r .body) (r .after) (all-left f (r .body) (r .after ++ unlines rs) h) (each-unlines rs (all-right f (r .after) (unlines rs) (all-right f (r .body) (r .after ++ unlines rs) h)))
+
+-- the chunks of a text have its characters
+pub chunks-all : (f : ℕ → Bool) (t : List ℕ) (c j : ℕ) (ws : List ℕ) → T (all f t) → T (all f (flatten (chunksOf c ws (drop j (lines isLF t)))))
+chunks-all f t c j ws h = chunksOf-all f c ws (each-drop f j (each-unlines f (lines isLF t) (rw (unlines-lines isLF t) h)))
 
 -- rows with other bodies, each character of which passes: as many, ended alike
 data Alike (f : ℕ → Bool) : Rows → Rows → Type 0 where
@@ -324,7 +338,7 @@ good-space : T (admissible 32)
 unfolding admissible scalar
 good-space = tt
 
-small-both : (p : Position) → T (smallPosition p) → (p .row .0 ≤ 1_000_000) × (p .col .0 ≤ 1_000_000)
+pub small-both : (p : Position) → T (smallPosition p) → (p .row .0 ≤ 1_000_000) × (p .col .0 ≤ 1_000_000)
 small-both p h =
     (leb→le (p .row .0) 1_000_000 (T-left (small (p .row .0)) (small (p .col .0)) h), leb→le (p .col .0) 1_000_000 (T-right (small (p .row .0)) (small (p .col .0)) h))
 

@@ -39,7 +39,7 @@ none-left : {A : Type 0} (z y : Paper A) → firstOf [] z ≡ y → z ≡ y
 unfolding firstOf
 none-left z y e = e
 
-leaves-answer : (p : Paper Applied) (v : View) (l : Lent) (d : Edited ℕ) → leaves p v l d .answer ≡ p
+pub leaves-answer : (p : Paper Applied) (v : View) (l : Lent) (d : Edited ℕ) → leaves p v l d .answer ≡ p
 unfolding leaves
 leaves-answer (done a) v l d = refl
 leaves-answer (refused n k) v l d = refl

@@ -144,7 +144,7 @@ ok-splice n t a b X h k r =
     ok-both n (spliced t a b X) r
     (all-append admissible (take a t) (X ++ drop b t) (all-take admissible a t (ok-admissible n t h)) (all-append admissible X (drop b t) k (all-drop admissible b t (ok-admissible n t h))))
 
-line-place : (t : List ℕ) (lo hi : ℕ) → lo ≤ lastRow isLF t → clamp isLF t (lineFrom isLF t lo hi) ≡ lineFrom isLF t lo hi
+pub line-place : (t : List ℕ) (lo hi : ℕ) → lo ≤ lastRow isLF t → clamp isLF t (lineFrom isLF t lo hi) ≡ lineFrom isLF t lo hi
 unfolding lineFrom
 line-place t lo hi h = go (ltb hi (lastRow isLF t)) (ltb 0 lo)
   where

@@ -94,18 +94,20 @@ joinCols-small b r (s ∷ rs) h =
     let q = joinNext 32 b r s in
     T-both (small (length (r .body))) (all small (joinCols 32 b q rs)) (le→leb (length (r .body)) 1_000_000 (omega (arith, joinRow-le b q rs, next-length b (r .body) (s .body)))) (joinCols-small b q rs h)
 
-gap-small : (b : Bool) (r s : List ℕ) → T (small (length (gap 32 b r s)))
-unfolding gap
-gap-small true (x ∷ r) (y ∷ s) = tt
-gap-small true (x ∷ r) [] = tt
-gap-small true [] s = tt
-gap-small false r s = tt
+-- a flag is 0 or 1
+module _ (f : ℕ → Bool) (none : T (f 0)) (some : T (f 1)) where
+  gap-flag : (b : Bool) (r s : List ℕ) → T (f (length (gap 32 b r s)))
+  unfolding gap
+  gap-flag true (x ∷ r) (y ∷ s) = some
+  gap-flag true (x ∷ r) [] = none
+  gap-flag true [] s = none
+  gap-flag false r s = none
 
-pub joinFlags-small : (b : Bool) (r : Line ℕ) (rs : List (Line ℕ)) → T (all small (joinFlags 32 b r rs))
-unfolding joinFlags all
-joinFlags-small b r [] = tt
-joinFlags-small b r (s ∷ rs) =
-    T-both (small (length (gap 32 b (r .body) (s .body)))) (all small (joinFlags 32 b (joinNext 32 b r s) rs)) (gap-small b (r .body) (s .body)) (joinFlags-small b (joinNext 32 b r s) rs)
+  pub joinFlags-all : (b : Bool) (r : Line ℕ) (rs : List (Line ℕ)) → T (all f (joinFlags 32 b r rs))
+  unfolding joinFlags all
+  joinFlags-all b r [] = tt
+  joinFlags-all b r (s ∷ rs) =
+      T-both (f (length (gap 32 b (r .body) (s .body)))) (all f (joinFlags 32 b (joinNext 32 b r s) rs)) (gap-flag b (r .body) (s .body)) (joinFlags-all b (joinNext 32 b r s) rs)
 
 -- ---- a join more at the end
 
@@ -294,7 +296,7 @@ module _ (n : ℕ) (t : List ℕ) (h : Ok n t) (A : List (Line ℕ)) (x : Line �
     step-split = record {
       fine = record {
         textual = ok-u;
-        smalls = T-both (small (length A) && all small cols) (all small flags) (T-both (small (length A)) (all small cols) small-A (joinCols-small b x ys (omega (arith, z-le)))) (joinFlags-small b x ys);
+        smalls = T-both (small (length A) && all small cols) (all small flags) (T-both (small (length A)) (all small cols) small-A (joinCols-small b x ys (omega (arith, z-le)))) (joinFlags-all small tt tt b x ys);
         fews = rw (joinCols-length b x ys, joinFlags-length b x ys, le-leb (length ys) 256 many) tt;
         payloads = tt;
         withins = rw (row-min u A z (drop m B) lines-u, lines-u, getD-append-seam A z (drop m B) (line [] [])) (split-join-within b x ys broken);

@@ -3,6 +3,7 @@ use mathlib.Core.Path.{_≡_, refl, sym, ap, _∙_}
 use mathlib.Core.Bool.{Bool, true, false}
 use mathlib.Core.List.{List, [], _∷_, _++_}
 use Prim.Native.Nat.{ℕ, _-_, _≤_}
+use native.Mathlib.Omega.{arith}
 use lib.Dec.{T, leb, leb→le}
 use lib.ListN.{length, take, drop}
 use Rattle.promise.specs.Paper.{Paper, done, refused}
@@ -21,7 +22,7 @@ use Rattle.edit.specs.Edits.{Edited}
 use Rattle.edit.specs.Refusals.{short, smallOk, fewOk, payloadOk, withinOk, roomOk, recordOk}
 use Rattle.edit.specs.Call.{numberOf, offsetOf, paperVerdict, firstOf, verdictOf, Lent, outcome, textOf, resultOf, roomOf, givenTests, resultTests, appliedAs, leaves, finished, applied, isUndoable, undoable}
 use Rattle.edit.proofs.Accepted.{record-fits}
-use Rattle.edit.proofs.Calls.{passed}
+use Rattle.edit.proofs.Calls.{passed, leaves-answer}
 
 -- ---- a list of tests, judged before it is known what is done if all pass
 
@@ -132,6 +133,24 @@ given-passed v e l h =
     let t3 = passed (fewOk (textOf v l) e (l .payload) (l .first) (l .second)) _ _ _ _ (t2 .1) in
     let t4 = passed (payloadOk e (l .payload) (l .first)) _ _ _ _ (t3 .1) in
     record { textual = t1 .0; smalls = t2 .0; fews = t3 .0; payloads = t4 .0 }
+
+-- ---- from an accepted call to what passed
+
+accepted-passes : {A : Type 0} (xs : List (Bool × Refusal)) (z : Paper A) (a : A) → firstOf xs z ≡ done a → (done tt ≡ verdictOf xs) × (z ≡ done a)
+unfolding firstOf
+accepted-passes [] z a e = (refl, e)
+accepted-passes ((true, r) ∷ xs) z a e = let w : refused (numberOf r) (offsetOf r) ≡ done a = e in let n : _≡_ {A = ℕ} 0 1 = cc in absurd (omega arith)
+accepted-passes ((false, r) ∷ xs) z a e = accepted-passes xs z a e
+
+pub accepted : (v : View) (e : Edit) (l : Lent) (a : Applied) → applied v e l .answer ≡ done a → Passed v e l × Fits (roomOf l) (resultOf v e l)
+unfolding applied
+accepted v e l a h =
+    let d = resultOf v e l in
+    let W = withinOk (textOf v l) e (l .first) (l .second) in
+    let R = resultTests W (roomOf l) d in
+    let z = done (appliedAs v d) in
+    let g = accepted-passes (givenTests v e l) (firstOf R z) a (sym (first-append (givenTests v e l) R z) ∙ sym (leaves-answer (firstOf (givenTests v e l ++ R) z) v l d) ∙ h) in
+    (given-passed v e l (g .0), fits W (roomOf l) d (accepted-passes R z a (g .1) .0) .1)
 
 -- ---- from the verdict on rows 1 to 4, by its case
 

@@ -1,11 +1,14 @@
 -- Lists of numbers that all pass a test.
-use mathlib.Core.Bool.{Bool}
+use mathlib.Core.Path.{_≡_}
+use mathlib.Core.Bool.{Bool, true, not, _||_}
 use mathlib.Core.List.{List, [], _∷_, _++_}
 use Prim.Native.Nat.{ℕ}
-use lib.Dec.{T}
-use lib.ListN.{take, drop, take-append-drop}
-use Rattle.promise.proofs.Bools.{T-both, T-left, T-right}
-use Rattle.text.specs.Text.{all}
+use lib.Dec.{T, eqb}
+use lib.ListN.{take, drop, getD, take-append-drop}
+use Rattle.promise.proofs.Bools.{both, T-both, T-left, T-right}
+use Rattle.utf8.specs.Rfc3629.{scalar, within}
+use Rattle.utf8.specs.Reading.{allScalar}
+use Rattle.text.specs.Text.{admissible, all}
 
 module _ (f : ℕ → Bool) where
   pub all-append : (xs ys : List ℕ) → T (all f xs) → T (all f ys) → T (all f (xs ++ ys))
@@ -28,3 +31,23 @@ module _ (f : ℕ → Bool) where
 
   pub all-drop : (n : ℕ) (xs : List ℕ) → T (all f xs) → T (all f (drop n xs))
   all-drop n xs p = all-right (take n xs) (drop n xs) (rw (take-append-drop n xs) p)
+
+  -- the first, or 0, and the others
+  pub first-passes : (xs : List ℕ) → f 0 ≡ true → all f xs ≡ true → (f (getD xs 0 0) ≡ true) × (all f (drop 1 xs) ≡ true)
+  unfolding all
+  first-passes [] z e = (z, e)
+  first-passes (x ∷ xs) z e = both (f x) (all f xs) e
+
+-- a test that passes wherever another does
+pub all-weaker : (f g : ℕ → Bool) → ((x : ℕ) → T (f x) → T (g x)) → (xs : List ℕ) → T (all f xs) → T (all g xs)
+unfolding all
+all-weaker f g h [] p = tt
+all-weaker f g h (x ∷ xs) p = T-both (g x) (all g xs) (h x (T-left (f x) (all f xs) p)) (all-weaker f g h xs (T-right (f x) (all f xs) p))
+
+-- what is admitted is a scalar
+pub admitted-scalars : (xs : List ℕ) → T (all admissible xs) → T (allScalar xs)
+unfolding all admissible allScalar
+admitted-scalars [] p = tt
+admitted-scalars (x ∷ xs) p =
+    T-both (scalar x) (allScalar xs) (T-left (scalar x) (not (within (0x0B, 0x0D) x || eqb x 0x85 || within (0x2028, 0x2029) x)) (T-left (admissible x) (all admissible xs) p))
+    (admitted-scalars xs (T-right (admissible x) (all admissible xs) p))

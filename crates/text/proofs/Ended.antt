@@ -2,7 +2,7 @@
 use mathlib.Core.Path.{_≡_, refl, _∙_, ap}
 use mathlib.Core.Bool.{Bool, true, false, cond, not}
 use mathlib.Core.List.{List, [], _∷_, _++_, append-nil, append-assoc}
-use Prim.Native.Nat.{ℕ, zero, suc, _<_}
+use Prim.Native.Nat.{ℕ, zero, suc, _≤_, _<_}
 use native.Mathlib.Omega.{arith}
 use borrow.Author.Tests.{eqb-true}
 use lib.Dec.{T}
@@ -53,6 +53,11 @@ pub unlines-append : (A B : List (Line ℕ)) → unlines (A ++ B) ≡ unlines A 
 unfolding unlines
 unlines-append [] B = refl
 unlines-append (r ∷ A) B = rw (unlines-append A B, append-assoc (r .body) (r .after ++ unlines A) (unlines B), append-assoc (r .after) (unlines A) (unlines B))
+
+-- a row is no longer than its text
+pub body-within : (A : List (Line ℕ)) (z : Line ℕ) (B : List (Line ℕ)) → length (z .body) ≤ length (unlines (A ++ z ∷ B))
+unfolding unlines
+body-within A z B = rw (unlines-append A (z ∷ B)) (omega (arith, length-append (unlines A) (z .body ++ (z .after ++ unlines B)), length-append (z .body) (z .after ++ unlines B)))
 
 -- a row with rows below
 ended-below : {r : Line ℕ} {rs : List (Line ℕ)} → Ended (r ∷ rs) → 0 < length rs → Ended rs × ((new : List (Line ℕ)) → Ended new → Ended (r ∷ new))

@@ -1,8 +1,8 @@
 -- A whole slice written, scalar by scalar.
 use mathlib.Core.Path.{_≡_, refl, sym, ap, _∙_}
 use mathlib.Core.Bool.{Bool, true, false, cond}
-use mathlib.Core.List.{List, _++_}
-use Prim.Native.Nat.{ℕ, _+_, _≤_, _<_}
+use mathlib.Core.List.{List, [], _∷_, _++_}
+use Prim.Native.Nat.{ℕ, _+_, _*_, _≤_, _<_}
 use native.Mathlib.Nat.{add-zero, zero-add}
 use native.Mathlib.Omega.{arith}
 use lib.ListN.{length, take, drop, getD, length-append, length-drop, drop-of-length-le}
@@ -37,6 +37,12 @@ some-octets c h = go (scalar c) h
 pub octets-in : (c : ℕ) → scalar c ≡ true → octetsIn (sequenceOf c) ≡ octets c
 unfolding sequenceOf
 octets-in c e = rw e
+
+-- no character takes more than four octets
+pub writing-len : (cs : List ℕ) → length (writing cs) ≤ length cs * 4
+unfolding writing
+writing-len [] = omega arith
+writing-len (c ∷ cs) = omega (arith, octets-len c .1, writing-len cs, length-append (octets c) (writing cs))
 
 -- Counting: k octets are behind, and those of l are still to come.
 abbrev pub counting : ℕ → List ℕ → Paper ℕ

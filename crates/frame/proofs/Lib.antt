@@ -1,0 +1,15 @@
+pub mod Fours
+pub mod Items
+pub mod Strings
+pub mod Answers
+pub mod Heads
+pub mod RoundNumbers
+pub mod RoundItems
+pub mod RoundStrings
+pub mod ReadBack
+pub mod AllBytes
+pub mod WriteBack
+pub mod Theorems
+pub mod ByteCounts
+pub mod Compact
+pub mod Inverses
