@@ -1,8 +1,8 @@
 -- From texts to calls: what a call does with buffers and slices is what the edit does with the text.
 use mathlib.Core.Path.{_≡_, refl, sym, _∙_, ap, subst}
-use mathlib.Core.Bool.{Bool, true, false, not, _&&_}
+use mathlib.Core.Bool.{Bool, true, false, cond, not, _&&_}
 use mathlib.Core.List.{List, [], _∷_, _++_}
-use Prim.Native.Nat.{ℕ, _≤_}
+use Prim.Native.Nat.{ℕ, _≤_, _<_}
 use native.Mathlib.Omega.{arith}
 use lib.Dec.{T, leb, leb→le}
 use lib.ListN.{length, take, drop, replicate, length-append, length-drop, length-replicate}
@@ -14,6 +14,7 @@ use Rattle.text.specs.Text.{admissible, textOk, renewed, all}
 use Rattle.text.proofs.Renewed.{renewed-text, renewed-length}
 use Rattle.edit.specs.declared.View.{View}
 use Rattle.edit.specs.declared.Refusal.{Refusal}
+use Rattle.edit.specs.declared.Refusal.the-variants.{BadText, TooBig, TooMany, BadPayload, BadUtf8, Reversed, BeyondRow, NoRoom, NoRecord, BadFrame}
 use Rattle.edit.specs.declared.Room.{Room}
 use Rattle.edit.specs.declared.Applied.{Applied}
 use Rattle.edit.specs.Edits.{Whole, whole, Edited}
@@ -43,6 +44,28 @@ pub leaves-answer : (p : Paper Applied) (v : View) (l : Lent) (d : Edited ℕ) �
 unfolding leaves
 leaves-answer (done a) v l d = refl
 leaves-answer (refused n k) v l d = refl
+
+-- a refusal has a number, and it is not 0
+numbered : (r : Refusal) → 0 < numberOf r
+numbered BadText = omega arith
+numbered TooBig = omega arith
+numbered TooMany = omega arith
+numbered BadPayload = omega arith
+numbered (BadUtf8 at) = omega arith
+numbered Reversed = omega arith
+numbered BeyondRow = omega arith
+numbered NoRoom = omega arith
+numbered NoRecord = omega arith
+numbered BadFrame = omega arith
+
+first-number : {A : Type 0} (xs : List (Bool × Refusal)) (a : A) (n k : ℕ) → firstOf xs (done a) ≡ refused n k → 0 < n
+unfolding firstOf
+first-number [] a n k e = let z : _≡_ {A = ℕ} 0 1 = cc in absurd (omega arith)
+first-number {A} (x ∷ xs) a n k e = go (x .0) e (first-number xs a n k)
+  where
+    go : (b : Bool) → cond {A = Paper A} b (refused (numberOf (x .1)) (offsetOf (x .1))) (firstOf xs (done a)) ≡ refused n k → (firstOf xs (done a) ≡ refused n k → 0 < n) → 0 < n
+    go true e h = let q : numberOf (x .1) ≡ n = cc in omega (arith, numbered (x .1))
+    go false e h = h e
 
 -- ---- room
 
@@ -248,6 +271,9 @@ accepted-once s w o a e p f g =
     let ls : a .second ≡ length (i .second) = ap (λ (b : Applied). b .second) q in
     called-accepted s w (after a (called s w o)) (returned a (called s w o))
     (once-called s w o a e (record-room (full (length (s .buffer))) i (omega arith) (omega arith) (omega arith)))
+
+pub refused-number : (s : State) (w : Whole ℕ) (o : Beside) (n k : ℕ) → called s w o .answer ≡ refused n k → 0 < n
+refused-number s w o n k e = first-number _ _ n k (first-answer s w o (refused n k) e)
 
 -- the inverse that an accepted call hands back is within the slices lent for it
 pub answer-fits : (s : State) (w : Whole ℕ) (o : Beside) (a : Applied) → called s w o .answer ≡ done a

@@ -6,7 +6,7 @@ use lib.ListN.{length}
 use Rattle.edit.specs.Edits.{Whole}
 use Rattle.edit.specs.Runs.{Run, stop, step, edits, inverses, stages}
 use Rattle.edit.specs.Demand3.{State, text, Accepted, Undoable, Undone, Demand3}
-use Rattle.edit.proofs.Accepted.{Step}
+use Rattle.edit.proofs.Accepted.{Ok, Step}
 use Rattle.edit.proofs.Calls.{Held, next, step-accepted, next-text, next-held, Called, accepted-called, said-undoable, exact}
 use Rattle.edit.proofs.Undo.{Good, undone-texts}
 
@@ -84,6 +84,31 @@ held-undone n {s} {u} r k =
       again-edits = a .same-edits ∙ t .again-edits ∙ ap reverse (sym (b .same-inverses));
       again-texts = a .same-texts ∙ t .again-stages ∙ d .same-texts;
     }
+
+-- the inverses last first, from any state that has the text which the run ended with
+pub record Reversed {s u : State} (r : Run Undoable s u) (x : State) : Type 0 where
+  pub origin : State
+  pub back : Run Accepted x origin
+  pub back-edits : edits back ≡ reverse (inverses r)
+  pub ends : text origin ≡ text s
+
+pub reversed : (n : ℕ) {s u : State} (r : Run Undoable s u) → Held n s → (x : State) → Held n x → text x ≡ text u → Reversed r x
+reversed n r k x h e =
+    let d = read n r k in
+    let t = undone-texts n (d .run) in
+    let b = carried n (t .back) x h e in
+    record { origin = b .end; back = b .run; back-edits = b .same-edits ∙ t .back-edits ∙ ap reverse (d .same-inverses); ends = b .ends }
+
+-- a run from a text that a buffer admits ends with one
+starts-ok : (n : ℕ) {t v : List ℕ} → Run (Step n) t v → Ok n v → Ok n t
+starts-ok n stop h = h
+starts-ok n (step g r) h = g .fine .textual
+
+pub run-held : (n : ℕ) {s u : State} → Run Undoable s u → Held n s → Held n u
+run-held n r k = read n r k .held
+
+pub run-ok : (n : ℕ) {s u : State} → Run Undoable s u → Held n s → Ok n (text s) → Ok n (text u)
+run-ok n r k h = starts-ok n (undone-texts n (read n r k .run) .back) h
 
 -- with no edit there is nothing to undo; with one, the first was accepted, and its state was held
 pub demand3 : Demand3

@@ -3,3 +3,5 @@ pub mod Pairs
 pub mod Fills
 pub mod Calls
 pub mod Theorems
+pub mod Breaks
+pub mod Zeros

@@ -1,0 +1,1 @@
+// A whole script on slices.

@@ -1,0 +1,4 @@
+pub mod Orders
+pub mod Framing
+pub mod Callings
+pub mod TextLines
