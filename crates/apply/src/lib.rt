@@ -16,10 +16,11 @@ use given::judge;
 use joins::join;
 use joins::split;
 ghost use mathlib.Core.Path.{_≡_};
-ghost use Rattle.edit.specs.Call.{paperAnswer, outcome, lent, applied};
+ghost use Rattle.promise.specs.Paper.{done};
+ghost use Rattle.edit.specs.Call.{paperAnswer, verdictOf, outcome, lent, givenTests, applied};
 
-// The slices: the text's buffer; the edit's payload and lists; and the room for the inverse's payload and lists.
-pub fn apply_edit(
+// The edit done, once rows 1 to 4 are known not to refuse it. The slices are those of `apply_edit`.
+pub fn apply_judged(
     text: &mut [u32],
     view: View,
     edit: Edit,
@@ -30,12 +31,9 @@ pub fn apply_edit(
     outfirst: &mut [u32],
     outsecond: &mut [u32],
 ) -> Answer
+    requires { ⌜ verdictOf (givenTests view edit (lent (now text) (now payload) (now first) (now second) (now outpayload) (now outfirst) (now outsecond))) ≡ done tt ⌝ }
     ensures { λ r. ⌜ outcome (paperAnswer r) (now (text .exit)) (now (outpayload .exit)) (now (outfirst .exit)) (now (outsecond .exit)) ≡ applied view edit (lent (now (text .entry)) (now (payload .entry)) (now (first .entry)) (now (second .entry)) (now (outpayload .entry)) (now (outfirst .entry)) (now (outsecond .entry))) ⌝ }
 {
-    let verdict = judge(text, view, edit, payload, first, second);
-    if let Verdict::Bad(why) = verdict {
-        return Answer::Refused(why);
-    }
     let room = Room {
         buffer: text.len(),
         payload: outpayload.len(),
@@ -66,4 +64,35 @@ pub fn apply_edit(
             delete_chunks(text, view, room, at, first, second, outpayload, outfirst)
         }
     }
+}
+
+// The slices: the text's buffer; the edit's payload and lists; and the room for the inverse's payload and lists.
+pub fn apply_edit(
+    text: &mut [u32],
+    view: View,
+    edit: Edit,
+    payload: &[u32],
+    first: &[u32],
+    second: &[u32],
+    outpayload: &mut [u32],
+    outfirst: &mut [u32],
+    outsecond: &mut [u32],
+) -> Answer
+    ensures { λ r. ⌜ outcome (paperAnswer r) (now (text .exit)) (now (outpayload .exit)) (now (outfirst .exit)) (now (outsecond .exit)) ≡ applied view edit (lent (now (text .entry)) (now (payload .entry)) (now (first .entry)) (now (second .entry)) (now (outpayload .entry)) (now (outfirst .entry)) (now (outsecond .entry))) ⌝ }
+{
+    let verdict = judge(text, view, edit, payload, first, second);
+    if let Verdict::Bad(why) = verdict {
+        return Answer::Refused(why);
+    }
+    apply_judged(
+        text,
+        view,
+        edit,
+        payload,
+        first,
+        second,
+        outpayload,
+        outfirst,
+        outsecond,
+    )
 }

@@ -4,6 +4,7 @@ pub mod Rectangles
 pub mod JoinCols
 pub mod Handed
 pub mod Verdicts
+pub mod Carrying
 pub mod Still
 pub mod Unchanged
 pub mod UnchangedRows

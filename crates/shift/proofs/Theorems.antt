@@ -24,7 +24,9 @@ use Rattle.shift.specs.declared.Shifted.{Shifted}
 use Rattle.shift.specs.declared.Shifted.the-variants as asShifted
 use Rattle.shift.specs.declared.SelShifted.{SelShifted}
 use Rattle.shift.specs.declared.SelShifted.the-variants as asSelShifted
-use Rattle.shift.specs.Answers.{Followed, to, dropped, paperShifted, paperSelShifted}
+use Rattle.shift.specs.declared.Carried.{Carried}
+use Rattle.shift.specs.declared.Carried.the-variants as asCarried
+use Rattle.shift.specs.Answers.{Followed, to, dropped, paperShifted, paperSelShifted, paperCarried}
 use Rattle.shift.specs.After.{afterDeleteChar, afterDelete, shifted}
 use Rattle.shift.specs.Theorems.{KeepsBefore, Nothing, FollowsRange, UnchangedStays, SplitDrops, Settled}
 use Rattle.shift.proofs.Inserts.{insert-before}
@@ -99,5 +101,14 @@ sel-back (asSelShifted.At s) = refl
 sel-back asSelShifted.Dropped = refl
 sel-back (asSelShifted.Refused r) = ap (λ (r : Refusal). asSelShifted.Refused r) (refusal-back r)
 
+carriedBack : Followed Sel → Carried
+carriedBack (to s) = asCarried.At s
+carriedBack dropped = asCarried.Dropped
+
+carried-back : (x : Carried) → carriedBack (paperCarried x) ≡ x
+unfolding carriedBack
+carried-back (asCarried.At s) = refl
+carried-back asCarried.Dropped = refl
+
 pub promises-settle : Settled
-promises-settle = record { shift-position = settled shiftedBack shifted-back; shift-sel = settled selBack sel-back }
+promises-settle = record { shift-position = settled shiftedBack shifted-back; shift-sel = settled selBack sel-back; carry-sel = settled carriedBack carried-back }

@@ -1,5 +1,5 @@
 -- What refuses a shift, in order; and the whole call, from the verdict.
-use mathlib.Core.Path.{_≡_, refl, sym, ap, _∙_}
+use mathlib.Core.Path.{_≡_, sym, _∙_}
 use mathlib.Core.Bool.{Bool, true, false, not, _&&_}
 use mathlib.Core.List.{List, [], _∷_}
 use Prim.Native.Nat.{ℕ, _-_, _≤_}
@@ -21,10 +21,9 @@ use Rattle.edit.proofs.Calls.{passed}
 use Rattle.edit.proofs.Workers.{first-passes, first-refuses}
 use Rattle.given.specs.Tests.{laterTests}
 use Rattle.select.specs.declared.Sel.{Sel}
-use Rattle.select.specs.Sels.{sel}
+use Rattle.shift.specs.declared.Carried.{Carried}
 use Rattle.shift.specs.declared.Track.{Track}
-use Rattle.shift.specs.declared.Track.the-variants.{To, Dropped}
-use Rattle.shift.specs.Answers.{Followed, to, dropped, paperTrack}
+use Rattle.shift.specs.Answers.{Followed, paperTrack, paperCarried}
 use Rattle.shift.specs.After.{shifted}
 use Rattle.shift.specs.Call.{orderedOk, shiftTests, both as ends, positionShifted, selShifted}
 use Rattle.shift.proofs.Handed.{small-first, few-first}
@@ -108,10 +107,6 @@ module _ (b : List ℕ) (used : ℕ) (e : Edit) (x f s : List ℕ) (p : Position
 
 -- ---- the whole call, of a selection
 
-ends-dropped : (y : Followed Position) → dropped ≡ ends dropped y
-ends-dropped (to h) = refl
-ends-dropped dropped = refl
-
 module _ (b : List ℕ) (used : ℕ) (e : Edit) (x f s : List ℕ) (l : Sel) (m k : Bool) (n : m ≡ smallPosition (l .anchor)) (o : k ≡ smallPosition (l .head)) (v : Verdict)
     (h : paperVerdict v ≡ verdictOf (shiftTests b used e x f s (m && k))) where
   abbrev tests : List (Bool × Refusal)
@@ -119,9 +114,6 @@ module _ (b : List ℕ) (used : ℕ) (e : Edit) (x f s : List ℕ) (l : Sel) (m 
 
   abbrev landed : Paper (Followed Sel)
   landed = done (ends (shifted (take used b) e x f (l .anchor)) (shifted (take used b) e x f (l .head)))
-
-  abbrev Tracks : Track → Position → Type 0
-  Tracks w p = paperTrack w ≡ shifted (take (used - 0) (drop 0 b)) e x f p
 
   pub sel-refused : (r : Refusal) → v ≡ Bad r → refused (numberOf r) (offsetOf r) ≡ selShifted b used e x f s l
   unfolding selShifted
@@ -131,23 +123,13 @@ module _ (b : List ℕ) (used : ℕ) (e : Edit) (x f s : List ℕ) (l : Sel) (m 
     both-small : (m ≡ true) × (k ≡ true)
     both-small = both m k (shift-passed b used e x f s (m && k) v h q .smalls .1)
 
-    pub anchor-asked : Asked b used e x f (l .anchor)
-    anchor-asked = asked b used e x f s (m && k) v h q (l .anchor) (sym n ∙ both-small .0)
+    pub sel-asked : (length (take (used - 0) (drop 0 b)) ≤ textLimit) × (smallPosition (l .anchor) ≡ true) × (smallPosition (l .head) ≡ true) × (smallOk e f [] ≡ true)
+        × (fewOk (take (used - 0) (drop 0 b)) e x f [] ≡ true) × (orderedOk e ≡ true)
+    sel-asked =
+        let a = asked b used e x f s (m && k) v h q (l .anchor) (sym n ∙ both-small .0) in
+        (a .0, a .1, sym o ∙ both-small .1, a .2, a .3, a .4)
 
-    pub head-asked : Asked b used e x f (l .head)
-    head-asked = asked b used e x f s (m && k) v h q (l .head) (sym o ∙ both-small .1)
-
-    sel-follows : (a c : Followed Position) → a ≡ shifted (take (used - 0) (drop 0 b)) e x f (l .anchor) → c ≡ shifted (take (used - 0) (drop 0 b)) e x f (l .head)
-        → done (ends a c) ≡ selShifted b used e x f s l
+    pub sel-follows : (w c : Carried) → paperCarried w ≡ ends (shifted (take (used - 0) (drop 0 b)) e x f (l .anchor)) (shifted (take (used - 0) (drop 0 b)) e x f (l .head)) → w ≡ c
+        → done (paperCarried c) ≡ selShifted b used e x f s l
     unfolding selShifted
-    sel-follows a c i j = rw (i, j) (sym (first-passes tests (rw (← n, ← o) (rw q at h)) landed ∙ rw (front b used)))
-
-    pub anchor-dropped : (w : Track) → Tracks w (l .anchor) → w ≡ Dropped → done dropped ≡ selShifted b used e x f s l
-    anchor-dropped w a i = ap done (ends-dropped (shifted (take (used - 0) (drop 0 b)) e x f (l .head))) ∙ sel-follows dropped _ (rw i at a) refl
-
-    module _ (w : Track) (p : Position) (a : Tracks w (l .anchor)) (i : w ≡ To p) (z : Track) (c : Tracks z (l .head)) where
-      pub head-dropped : z ≡ Dropped → done dropped ≡ selShifted b used e x f s l
-      head-dropped j = sel-follows (to p) dropped (rw i at a) (rw j at c)
-
-      pub sel-lands : (r : Position) → z ≡ To r → done (to (sel p r)) ≡ selShifted b used e x f s l
-      sel-lands r j = sel-follows (to p) (to r) (rw i at a) (rw j at c)
+    sel-follows w c y i = rw (← i) (sym (first-passes tests (rw (← n, ← o) (rw q at h)) landed ∙ rw (y, front b used)))

@@ -7,6 +7,8 @@ use Rattle.shift.specs.declared.Shifted.{Shifted}
 use Rattle.shift.specs.declared.Shifted.the-variants as asShifted
 use Rattle.shift.specs.declared.SelShifted.{SelShifted}
 use Rattle.shift.specs.declared.SelShifted.the-variants as asSelShifted
+use Rattle.shift.specs.declared.Carried.{Carried}
+use Rattle.shift.specs.declared.Carried.the-variants as asCarried
 use Rattle.shift.specs.declared.Track.{Track}
 use Rattle.shift.specs.declared.Track.the-variants as asTrack
 
@@ -18,6 +20,10 @@ pub data Followed (A : Type 0) : Type 0 where
 abbrev pub paperTrack : Track → Followed Position
 paperTrack (asTrack.To p) = to p
 paperTrack asTrack.Dropped = dropped
+
+abbrev pub paperCarried : Carried → Followed Sel
+paperCarried (asCarried.At s) = to s
+paperCarried asCarried.Dropped = dropped
 
 abbrev pub paperShifted : Shifted → Paper (Followed Position)
 paperShifted (asShifted.At p) = done (to p)

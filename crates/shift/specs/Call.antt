@@ -1,10 +1,10 @@
 -- The whole call of a shift. Nothing that is lent is written.
-use mathlib.Core.Bool.{Bool, true, not, _&&_}
+use mathlib.Core.Bool.{Bool, true, cond, not, _&&_}
 use mathlib.Core.List.{List, [], _∷_}
 use Prim.Native.Nat.{ℕ}
 use lib.Dec.{leb}
 use lib.ListN.{take}
-use Rattle.promise.specs.Paper.{Paper, done}
+use Rattle.promise.specs.Paper.{Paper, done, refused}
 use Rattle.text.specs.declared.Position.{Position}
 use Rattle.text.specs.Rows.{upto}
 use Rattle.text.specs.Text.{textOk}
@@ -63,3 +63,15 @@ unfoldable pub selShifted : List ℕ → ℕ → Edit → List ℕ → List ℕ 
 selShifted buffer used e x f s l =
     firstOf (shiftTests buffer used e x f s (smallPosition (l .anchor) && smallPosition (l .head)))
     (done (both (shifted (take used buffer) e x f (l .anchor)) (shifted (take used buffer) e x f (l .head))))
+
+-- ---- a selection that is carried along, where an answer has no refusal
+
+-- "a refused shift drops"
+abbrev pub kept : Paper (Followed Sel) → Followed Sel
+kept (done c) = c
+kept (refused n k) = dropped
+
+-- over an edit that no row refuses, of a text that is admitted: what is left to refuse is a position over "1,000,000"
+unfoldable pub carriedOver : List ℕ → Edit → List ℕ → List ℕ → Sel → Followed Sel
+carriedOver t e x f l =
+    cond (smallPosition (l .anchor) && smallPosition (l .head)) (both (shifted t e x f (l .anchor)) (shifted t e x f (l .head))) dropped

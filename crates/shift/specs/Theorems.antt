@@ -16,7 +16,7 @@ use Rattle.edit.specs.declared.Edit.the-variants.{InsertChar, InsertStr, Delete
 use Rattle.edit.specs.Edits.{editedBy}
 use Rattle.edit.specs.Refusals.{isSpace, spaces, payloadOk}
 use Rattle.edit.specs.Theorems.{Stands}
-use Rattle.shift.specs.Answers.{to, dropped, paperShifted, paperSelShifted}
+use Rattle.shift.specs.Answers.{to, dropped, paperShifted, paperSelShifted, paperCarried}
 use Rattle.shift.specs.After.{shifted}
 
 -- p stays where it is over the edit
@@ -78,3 +78,4 @@ SplitDrops = (t : List ℕ) (r : Row) (x f : List ℕ) (p : Position) → shifte
 pub record Settled : Type 0 where
   pub shift-position : Settles paperShifted
   pub shift-sel : Settles paperSelShifted
+  pub carry-sel : Settles paperCarried

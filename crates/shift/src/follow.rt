@@ -1,4 +1,5 @@
-// A position followed through an edit, kind by kind.
+// A position followed through an edit, kind by kind; and the two ends of a selection.
+use crate::Carried;
 use crate::Track;
 use crate::blocks::after_delete_block;
 use crate::blocks::after_delete_block_chunks;
@@ -9,6 +10,7 @@ use crate::flat::after_insert;
 use crate::rows::after_join;
 use edit::Edit;
 use edit::MotionKind;
+use select::Sel;
 use text::Position;
 ghost use mathlib.Core.Bool.{true};
 ghost use mathlib.Core.List.{[]};
@@ -17,9 +19,9 @@ ghost use Prim.Native.Nat.{_≤_};
 ghost use lib.ListN.{length};
 ghost use Rattle.text.specs.Text.{textLimit};
 ghost use Rattle.edit.specs.Refusals.{smallPosition, smallRange, smallOk, fewOk};
-ghost use Rattle.shift.specs.Answers.{paperTrack};
+ghost use Rattle.shift.specs.Answers.{paperTrack, paperCarried};
 ghost use Rattle.shift.specs.After.{afterDelete, shifted};
-ghost use Rattle.shift.specs.Call.{orderedRange, orderedOk};
+ghost use Rattle.shift.specs.Call.{orderedRange, orderedOk, both};
 
 fn after_delete(pos: Position, start: Position, end: Position, kind: MotionKind) -> Position
     requires { ⌜ (smallPosition pos ≡ true) × (smallRange start end kind ≡ true) × (orderedRange start end kind ≡ true) ⌝ }
@@ -53,4 +55,22 @@ pub fn follow(text: &[u32], edit: Edit, payload: &[u32], first: &[u32], pos: Pos
         Edit::InsertBlock { at } => Track::To(after_insert_block(pos, at, first)),
         Edit::DeleteBlockChunks { at } => Track::To(after_delete_block_chunks(pos, at, first)),
     }
+}
+
+// Each end is followed as it stands: they are not put in order.
+pub fn follow_sel(text: &[u32], edit: Edit, payload: &[u32], first: &[u32], sel: Sel) -> Carried
+    requires { ⌜ (length (now text) ≤ textLimit) × (smallPosition (sel .anchor) ≡ true) × (smallPosition (sel .head) ≡ true) × (smallOk edit (now first) [] ≡ true) × (fewOk (now text) edit (now payload) (now first) [] ≡ true) × (orderedOk edit ≡ true) ⌝ }
+    ensures { λ r. ⌜ paperCarried r ≡ both (shifted (now (text .entry)) edit (now (payload .entry)) (now (first .entry)) (sel .anchor)) (shifted (now (text .entry)) edit (now (payload .entry)) (now (first .entry)) (sel .head)) ⌝ }
+{
+    let anchor = sel.anchor;
+    let head = sel.head;
+    let fixed = follow(text, edit, payload, first, anchor);
+    let Track::To(a) = fixed else {
+        return Carried::Dropped;
+    };
+    let moving = follow(text, edit, payload, first, head);
+    let Track::To(h) = moving else {
+        return Carried::Dropped;
+    };
+    Carried::At(Sel::new(a, h))
 }

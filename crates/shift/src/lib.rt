@@ -6,6 +6,7 @@ mod judging;
 mod rows;
 
 use crate::follow::follow;
+use crate::follow::follow_sel;
 use crate::judging::judge;
 use edit::Edit;
 use edit::Refusal;
@@ -14,9 +15,15 @@ use edit::View;
 use given::small_position;
 use select::Sel;
 use text::Position;
+ghost use mathlib.Core.Bool.{true};
+ghost use mathlib.Core.List.{[]};
 ghost use mathlib.Core.Path.{_≡_};
-ghost use Rattle.shift.specs.Answers.{paperShifted, paperSelShifted};
-ghost use Rattle.shift.specs.Call.{positionShifted, selShifted};
+ghost use Prim.Native.Nat.{_≤_};
+ghost use lib.ListN.{length};
+ghost use Rattle.text.specs.Text.{textLimit};
+ghost use Rattle.edit.specs.Refusals.{smallOk, fewOk};
+ghost use Rattle.shift.specs.Answers.{paperShifted, paperSelShifted, paperCarried};
+ghost use Rattle.shift.specs.Call.{orderedOk, positionShifted, selShifted, carriedOver};
 
 // The position after the edit, or that it cannot be followed, or the refusal.
 pub enum Shifted {
@@ -30,6 +37,12 @@ pub enum SelShifted {
     At(Sel),
     Dropped,
     Refused(Refusal),
+}
+
+// A selection carried over an edit that is not refused.
+pub enum Carried {
+    At(Sel),
+    Dropped,
 }
 
 // A position followed through an edit that is not refused.
@@ -62,7 +75,7 @@ pub fn shift_position(
     }
 }
 
-// Both ends are judged together, and each is followed as it stands: they are not put in order.
+// Both ends are judged together.
 pub fn shift_sel(
     buffer: &[u32],
     view: View,
@@ -82,13 +95,22 @@ pub fn shift_sel(
     if let Verdict::Bad(why) = verdict {
         return SelShifted::Refused(why);
     }
-    let fixed = follow(&buffer[0..used], edit, payload, first, anchor);
-    let Track::To(a) = fixed else {
-        return SelShifted::Dropped;
-    };
-    let moving = follow(&buffer[0..used], edit, payload, first, head);
-    let Track::To(h) = moving else {
-        return SelShifted::Dropped;
-    };
-    SelShifted::At(Sel::new(a, h))
+    let carried = follow_sel(&buffer[0..used], edit, payload, first, sel);
+    match carried {
+        Carried::At(s) => SelShifted::At(s),
+        Carried::Dropped => SelShifted::Dropped,
+    }
+}
+
+// The selection after an edit that no row refuses, of an admitted text. One past the limit of numbers is dropped.
+pub fn carry_sel(text: &[u32], edit: Edit, payload: &[u32], first: &[u32], sel: Sel) -> Carried
+    requires { ⌜ (length (now text) ≤ textLimit) × (smallOk edit (now first) [] ≡ true) × (fewOk (now text) edit (now payload) (now first) [] ≡ true) × (orderedOk edit ≡ true) ⌝ }
+    ensures { λ r. ⌜ paperCarried r ≡ carriedOver (now (text .entry)) edit (now (payload .entry)) (now (first .entry)) sel ⌝ }
+{
+    let anchor = sel.anchor;
+    let head = sel.head;
+    if !(small_position(anchor) & small_position(head)) {
+        return Carried::Dropped;
+    }
+    follow_sel(text, edit, payload, first, sel)
 }

@@ -1,3 +1,4 @@
 pub mod States
 pub mod Steps
 pub mod Calls
+pub mod Carries

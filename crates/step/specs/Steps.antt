@@ -17,7 +17,7 @@ use Rattle.edit.specs.Call.{Lent, lent, Outcome, applied}
 use Rattle.edit.specs.Demand3.{returned}
 use Rattle.select.specs.declared.Sel.{Sel}
 use Rattle.shift.specs.Answers.{Followed, to, dropped}
-use Rattle.shift.specs.Call.{selShifted}
+use Rattle.shift.specs.Call.{selShifted, kept}
 use Rattle.hex.specs.Digits.{hexed}
 use Rattle.frame.specs.Format.{Frame, text, mark, edit, frameBytes}
 use Rattle.frame.specs.Reads.{readForm}
@@ -64,11 +64,7 @@ inOrder (DeleteBlockChunks p) = DeleteBlockChunks p
 abbrev pub lentTo : State → Whole ℕ → Lent
 lentTo s w = lent (s .buffer) (w .payload) (w .first) (w .second) (replicate (length (s .buffer)) 0) (replicate 256 0) (replicate 256 0)
 
--- "shifts marks"; "a refused shift drops"
-unfoldable pub kept : Paper (Followed Sel) → Followed Sel
-kept (done f) = f
-kept (refused n k) = dropped
-
+-- "shifts marks"
 unfoldable pub carried : State → Whole ℕ → Followed Sel → Followed Sel
 carried s w (to m) = kept (selShifted (s .buffer) (s .view .used) (w .edit) (w .payload) (w .first) (w .second) m)
 carried s w dropped = dropped
