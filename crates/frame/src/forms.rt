@@ -138,7 +138,8 @@ fn is_cut(strings: &[u8]) -> bool
             return false;
         }
         let length = number_at(strings, ByteOffset(at)) as usize;
-        if left - 4 < length {
+        let rest = left - 4;
+        if rest < length {
             return false;
         }
         at += 4 + length;

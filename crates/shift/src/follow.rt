@@ -1,12 +1,12 @@
 // A position followed through an edit, kind by kind; and the two ends of a selection.
 use crate::Carried;
 use crate::Track;
-use crate::blocks::after_delete_block;
-use crate::blocks::after_delete_block_chunks;
-use crate::blocks::after_insert_block;
-use crate::flat::after_delete_char;
-use crate::flat::after_delete_lines;
-use crate::flat::after_insert;
+use crate::boxes::after_delete_block;
+use crate::boxes::after_delete_block_chunks;
+use crate::boxes::after_insert_block;
+use crate::chars::after_delete_char;
+use crate::chars::after_delete_lines;
+use crate::chars::after_insert;
 use crate::rows::after_join;
 use edit::Edit;
 use edit::MotionKind;

@@ -1,6 +1,6 @@
 // Where positions and selections stand once an edit has been made. The text is the one before the edit.
-mod blocks;
-mod flat;
+mod boxes;
+mod chars;
 mod follow;
 mod judging;
 mod rows;

@@ -4,10 +4,10 @@ use mathlib.Core.Path.{sym, _∙_}
 use borrow.Author.Tests.{not-true, not-false}
 use Rattle.shift.proofs.Deletes.{delete-before, delete-inside, delete-in-row, delete-below}
 use borrow.Author.Needs.{needs}
-use Rattle.shift.proofs.flat.after_delete_char.Statement.{statement}
-use Rattle.shift.proofs.flat.after_delete_char.Tie as tie
-use Rattle.shift.proofs.flat.after_delete_char.Reads as reads
-use Rattle.shift.proofs.flat.after_delete_char.Lts as lts
+use Rattle.shift.proofs.chars.after_delete_char.Statement.{statement}
+use Rattle.shift.proofs.chars.after_delete_char.Tie as tie
+use Rattle.shift.proofs.chars.after_delete_char.Reads as reads
+use Rattle.shift.proofs.chars.after_delete_char.Lts as lts
 use Rattle.text.proofs.Position.le.Reads as le-reads
 
 le-requires : tie.Need-le-requires
