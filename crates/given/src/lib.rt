@@ -11,6 +11,7 @@ pub use lists::lists_few;
 pub use numbers::numbers_small;
 pub use numbers::small_position;
 pub use payload::payload_good;
+pub use payload::sums_to;
 use text::is_text;
 ghost use mathlib.Core.List.{List};
 ghost use mathlib.Core.Path.{_≡_};

@@ -21,7 +21,7 @@ fn no_lf(payload: &[u32]) -> bool
 }
 
 // Takes from what is left of the total, so that no sum has to fit.
-fn sums_to(list: &[u32], total: usize) -> bool
+pub fn sums_to(list: &[u32], total: usize) -> bool
     ensures { λ r. ⌜ r ≡ eqb (sum (now (list .entry))) total ⌝ }
 {
     let mut left = total;

@@ -1,4 +1,23 @@
 // Whether a line is sound and stands in its place. No edit is run.
+use frame::BYTE_LIMIT;
+use frame::Head;
+use frame::head_of;
+use hex::Unhexed;
+use hex::unhex;
+use select::Sel;
+use text::contains;
+ghost use mathlib.Core.Bool.{not, _&&_};
+ghost use mathlib.Core.Path.{_≡_};
+ghost use Prim.Native.Nat.{_≤_};
+ghost use lib.Dec.{ltb};
+ghost use lib.ListN.{length};
+ghost use Rattle.text.specs.Rows.{inText};
+ghost use Rattle.text.specs.Text.{isLF, textLimit};
+ghost use Rattle.frame.specs.Forms.{Form, headOf, lineForm};
+ghost use Rattle.place.specs.Places.{markLimit, judged, seen};
+
+// The most marks that are kept.
+pub const MARK_LIMIT: usize = 64;
 
 // What has been seen of a script.
 pub struct Place {
@@ -7,4 +26,82 @@ pub struct Place {
     // how many marks are kept
     pub marks: usize,
     pub edited: bool,
+}
+
+impl Place {
+    // With a line of this kind, in its place.
+    pub fn seen(self, head: Head) -> Place
+        requires { ⌜ self .marks ≤ markLimit ⌝ }
+        ensures { λ r. ⌜ ((g : Form) → headOf g ≡ head → r ≡ seen self g) ⌝ }
+    {
+        let sound = true;
+        let marks = self.marks;
+        let edited = self.edited;
+        match head {
+            Head::Malformed => self,
+            Head::Text => Place {
+                sound,
+                marks,
+                edited,
+            },
+            Head::Mark(_) => Place {
+                sound,
+                marks: marks + 1,
+                edited,
+            },
+            Head::Edit(_) => Place {
+                sound,
+                marks,
+                edited: true,
+            },
+        }
+    }
+}
+
+fn line_head(line: &[u8]) -> Head
+    ensures { λ r. ⌜ r ≡ headOf (lineForm (now (line .entry))) ⌝ }
+{
+    let mut bytes = [0u8; BYTE_LIMIT];
+    let unhexed = unhex(line, &mut bytes);
+    match unhexed {
+        Unhexed::Octets(count) => head_of(&bytes[0..count]),
+        Unhexed::BadFrame => Head::Malformed,
+        Unhexed::NoRoom => Head::Malformed,
+    }
+}
+
+// Whether a mark breaks none of its conditions.
+fn is_placed(place: Place, text: &[u32], sel: Sel) -> bool
+    requires { ⌜ length (now text) ≤ textLimit ⌝ }
+    ensures { λ r. ⌜ r ≡ (not (place .edited) && ltb (place .marks) markLimit && inText isLF (now (text .entry)) (sel .anchor) && inText isLF (now (text .entry)) (sel .head)) ⌝ }
+{
+    let anchor = sel.anchor;
+    let head = sel.head;
+    !place.edited & (place.marks < MARK_LIMIT) & contains(text, anchor) & contains(text, head)
+}
+
+// The kind of a line that is sound and in its place.
+pub fn judge(place: Place, text: &[u32], line: &[u8]) -> Head
+    requires { ⌜ length (now text) ≤ textLimit ⌝ }
+    ensures { λ r. ⌜ r ≡ headOf (judged place (now (text .entry)) (now (line .entry))) ⌝ }
+{
+    let head = line_head(line);
+    match head {
+        Head::Malformed => Head::Malformed,
+        Head::Text => {
+            if place.sound {
+                Head::Malformed
+            } else {
+                Head::Text
+            }
+        }
+        Head::Mark(sel) => {
+            if is_placed(place, text, sel) {
+                Head::Mark(sel)
+            } else {
+                Head::Malformed
+            }
+        }
+        Head::Edit(edit) => Head::Edit(edit),
+    }
 }

@@ -1,13 +1,13 @@
 -- Laws of lists that the toolchain's library lacks.
 use mathlib.Core.Path.{_≡_, _∙_}
-use mathlib.Core.List.{List, [], _∷_, _++_, append-nil}
+use mathlib.Core.List.{List, [], _∷_, _++_, append-nil, append-assoc}
 use Prim.Native.Nat.{ℕ, zero, suc, _+_, _-_, _≤_, _<_, min}
 use native.Mathlib.Nat.{sub-zero, min-eq-left, min-eq-right}
 use native.Mathlib.Decide.{decLe}
 use native.Mathlib.Numerals.{add-one}
 use native.Mathlib.Omega.{arith}
 use lib.ListN.{length, take, drop, getD, set, length-append, length-take, length-drop, drop-of-length-le}
-use lib.Seq.{drop-cons, take-nil, take-all, take-length, take-take, append-snoc, set-at}
+use lib.Seq.{drop-cons, take-nil, take-all, take-length, take-take, append-snoc, set-at, paste, take-at, drop-drop, drop-append-add}
 use Rattle.promise.specs.Slices.{over}
 
 -- a scan's turn: what stands at i, and what is left
@@ -43,3 +43,28 @@ pub over-more : (x xs out : List ℕ) (k a : ℕ) → x ≡ over xs out → leng
 over-more x xs out k a q e h =
     let n : length (xs ++ (a ∷ [])) ≡ suc k = length-append xs (a ∷ []) ∙ omega arith in
     rw (q, n, e, drop-cons out k 0 h, set-at xs (getD out k 0) (drop (suc k) out) a k e, append-snoc)
+
+-- more, behind what was written
+pub paste-behind : (p x w : List ℕ) (m k : ℕ) → length p ≡ m → length x ≡ k → paste (over p w) m x k ≡ over (p ++ x) w
+paste-behind p x w m k e l =
+    let lp : length (p ++ x) ≡ m + k = omega (arith, length-append p x) in
+    let d : drop (m + k) (p ++ drop (length p) w) ≡ drop (m + k) w = rw (← e) (drop-append-add p (drop (length p) w) k ∙ drop-drop k (length p) w) in
+    rw (take-at p (drop (length p) w) m e, take-all k x (omega arith), d, lp)
+
+-- two pastes, one behind the other
+pub paste-both : (d x y : List ℕ) (at n : ℕ) → n ≡ length x → at + (n + length y) ≤ length d
+    → paste (paste d at x n) (at + n) y (length y) ≡ paste d at (x ++ y) (length (x ++ y))
+paste-both d x y at n e h =
+    let la : length (take at d ++ x) ≡ at + n = simp (length-append, length-take) (omega arith) in
+    let ly : length (x ++ y) ≡ n + length y = simp length-append (omega arith) in
+    let tx : take n x ≡ x = take-all n x (omega arith) in
+    let dd : drop (at + n + length y) ((take at d ++ x) ++ drop (at + n) d) ≡ drop (at + (n + length y)) d =
+    let e₁ : at + n + length y ≡ length (take at d ++ x) + length y = omega arith in
+    let e₂ : at + n + length y ≡ at + (n + length y) = omega arith in
+    rw (e₁, drop-append-add (take at d ++ x) (drop (at + n) d) (length y), drop-drop, e₂) in
+    rw (tx, take-at (take at d ++ x) _ (at + n) la, take-length, dd, ly, ← ly, take-length, ly) (simp append-assoc)
+
+-- a paste in the part from m on, which was lent and came back
+pub part-pasted : (t ys y : List ℕ) (m : ℕ) → y ≡ over ys (take (length t - m) (drop m t))
+    → take m t ++ (y ++ drop (length t - m) (drop m t)) ≡ paste t m ys (length ys)
+part-pasted t ys y m e = tail-back t y m ∙ rw (e, tail-whole t m, drop-drop, take-length) (simp append-assoc)

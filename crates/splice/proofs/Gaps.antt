@@ -6,23 +6,10 @@ use native.Mathlib.Nat.{zero-add}
 use native.Mathlib.Omega.{arith}
 use lib.ListN.{length, take, drop, replicate, length-append, length-take, length-drop, length-replicate}
 use lib.Seq.{take-all, take-at, drop-at, take-length, take-take, drop-drop, drop-append-add, paste, length-paste, length-take-le}
-use Rattle.promise.proofs.Lists.{drop-take, tail-whole, tail-back}
+use Rattle.promise.proofs.Lists.{drop-take, tail-whole, tail-back, paste-both}
 use Rattle.text.specs.Rows.{spliced}
 use Rattle.text.specs.Text.{renewed}
 use Rattle.splice.specs.Splice.{gapOpened, Gap, gap, gapRemoved, gapClosed}
-
--- two pastes, one behind the other
-pub paste-both : (d x y : List ℕ) (at n : ℕ) → n ≡ length x → at + (n + length y) ≤ length d
-    → paste (paste d at x n) (at + n) y (length y) ≡ paste d at (x ++ y) (length (x ++ y))
-paste-both d x y at n e h =
-    let la : length (take at d ++ x) ≡ at + n = simp (length-append, length-take) (omega arith) in
-    let ly : length (x ++ y) ≡ n + length y = simp length-append (omega arith) in
-    let tx : take n x ≡ x = take-all n x (omega arith) in
-    let dd : drop (at + n + length y) ((take at d ++ x) ++ drop (at + n) d) ≡ drop (at + (n + length y)) d =
-    let e₁ : at + n + length y ≡ length (take at d ++ x) + length y = omega arith in
-    let e₂ : at + n + length y ≡ at + (n + length y) = omega arith in
-    rw (e₁, drop-append-add (take at d ++ x) (drop (at + n) d) (length y), drop-drop, e₂) in
-    rw (tx, take-at (take at d ++ x) _ (at + n) la, take-length, dd, ly, ← ly, take-length, ly) (simp append-assoc)
 
 -- the tail y after its move up, and the buffer t after the payload went in
 module _ (b y t : List ℕ) (used at : ℕ) (p : List ℕ) where

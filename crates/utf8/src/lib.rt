@@ -8,6 +8,7 @@ pub use read::decode;
 pub use read::read_scalar;
 pub use write::count_octets;
 pub use write::encode;
+pub use write::fill_octets;
 pub use write::sequence_of;
 
 // A place in a slice of bytes.

@@ -119,7 +119,7 @@ fn put(out: &mut [u8], at: ByteOffset, sequence: Sequence) -> ByteOffset
 }
 
 // The octets of the scalars, to the front of a slice that has room for them.
-fn fill_octets(scalars: &[u32], out: &mut [u8])
+pub fn fill_octets(scalars: &[u32], out: &mut [u8])
     requires { ⌜ (allScalar (now scalars) ≡ true) × (length (writing (now scalars)) ≤ length (now out)) ⌝ }
     ensures { λ _. ⌜ now (out .exit) ≡ over (writing (now (scalars .entry))) (now (out .entry)) ⌝ }
 {

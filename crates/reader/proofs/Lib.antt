@@ -1,0 +1,9 @@
+pub mod Gathers
+pub mod Rooms
+pub mod Decodes
+pub mod Behinds
+pub mod Chunks
+pub mod Tallies
+pub mod Frames
+pub mod Unhexes
+pub mod Theorems

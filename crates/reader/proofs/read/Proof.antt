@@ -1,0 +1,74 @@
+use mathlib.Core.Path.{refl}
+use native.Mathlib.Omega.{arith}
+use borrow.Author.Needs.{needs}
+use Rattle.reader.specs.Calls.{readInto}
+use Rattle.reader.proofs.Frames.{read-by}
+use Rattle.reader.proofs.Unhexes.{line-read, line-bad, line-fits}
+use Rattle.reader.proofs.read.Statement.{statement}
+use Rattle.reader.proofs.read.Tie as tie
+
+slice-aggregate-unhex : tie.Need-slice-aggregate-unhex
+slice-aggregate-unhex c = search needs
+
+unhex-requires : tie.Need-unhex-requires
+unhex-requires c κs = search needs
+
+enum-known-unhexed : tie.Need-enum-known-unhexed
+enum-known-unhexed c = search needs
+
+sub-read-bytes : tie.Need-sub-read-bytes
+sub-read-bytes c = search needs
+
+part-read-bytes-start : tie.Need-part-read-bytes-start
+part-read-bytes-start c = search needs
+
+part-read-bytes-end : tie.Need-part-read-bytes-end
+part-read-bytes-end c = let g = c .before .before .unhexed .given in let w = line-read (c .before .before .before .before .before .before .before .before .before .before .before .args .line .now) _ _ (g .0 .0) (rw (g .1) at (c .before .before .before .before .before .unhex .ensures)) in omega arith
+
+read-bytes-requires : tie.Need-read-bytes-requires
+read-bytes-requires c κs = search needs
+
+enum-told : tie.Need-enum-told
+enum-told c = search needs
+
+enum-told-2 : tie.Need-enum-told-2
+enum-told-2 c = search needs
+
+same-length : tie.Need-same-length
+same-length c = search needs
+
+same-length-2 : tie.Need-same-length-2
+same-length-2 c = search needs
+
+same-length-3 : tie.Need-same-length-3
+same-length-3 c = search needs
+
+returns : tie.Need-returns
+returns c = let a = c .before .before .before .before .before .before .before .before .before .before .before .before .before .before .before .before .before .before .before .before .before .before .args in let g = c .before .before .before .before .before .before .before .before .before .before .before .before .before .unhexed .given in read-by _ _ _ (a .payload .now) (a .first .now) (a .second .now) (c .before .before .before .before .before .before .read-bytes .ensures) (line-read (a .line .now) _ _ (g .0 .0) (rw (g .1) at (c .before .before .before .before .before .before .before .before .before .before .before .before .before .before .before .before .unhex .ensures)) .1)
+
+returns-2 : tie.Need-returns-2
+unfolding readInto
+returns-2 c = let a = c .before .before .before .before .before .before .before .before .before .args in read-by _ _ _ (a .payload .now) (a .first .now) (a .second .now) refl (line-bad (a .line .now) _ _ (rw (c .enum-told .given .1) at (c .before .before .before .unhex .ensures)))
+
+returns-3 : tie.Need-returns-3
+returns-3 c = let a = c .before .before .before .before .before .before .before .before .before .args in absurd (line-fits (a .line .now) _ _ (search needs) (rw (c .enum-told2 .given .1) at (c .before .before .before .unhex .ensures)))
+
+pub read-spec : {M : Type 1} → statement M
+read-spec =
+    tie.close
+    (tie.spec
+    slice-aggregate-unhex
+    unhex-requires
+    enum-known-unhexed
+    sub-read-bytes
+    part-read-bytes-start
+    part-read-bytes-end
+    read-bytes-requires
+    enum-told
+    enum-told-2
+    same-length
+    same-length-2
+    same-length-3
+    returns
+    returns-2
+    returns-3)
