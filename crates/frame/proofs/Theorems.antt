@@ -22,7 +22,7 @@ use Rattle.frame.proofs.AllBytes.{frame-bytes}
 use Rattle.frame.proofs.WriteBack.{frame-written}
 
 -- a line was written where no test refused
-line-done : (f : Frame) (l : List ℕ) → lineOf f ≡ done l
+pub line-done : (f : Frame) (l : List ℕ) → lineOf f ≡ done l
     → (hasFrame f ≡ true) × (allScalar (frameChars f) ≡ true) × (length (hexed (frameBytes f)) ≤ digitLimit) × (hexed (frameBytes f) ≡ l)
 unfolding lineOf
 line-done f l e = go (hasFrame f) (allScalar (frameChars f)) (leb (length h) digitLimit) refl refl refl e

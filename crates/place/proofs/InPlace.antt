@@ -3,8 +3,9 @@ use mathlib.Core.Path.{_≡_, refl}
 use mathlib.Core.Bool.{Bool, true, false, cond, not, _&&_}
 use mathlib.Core.List.{List}
 use mathlib.Core.Logic.{_⊎_, inl, inr}
-use Prim.Native.Nat.{ℕ}
+use Prim.Native.Nat.{ℕ, _<_}
 use native.Mathlib.Omega.{arith}
+use borrow.Author.Tests.{ltb-true}
 use lib.Dec.{ltb}
 use Rattle.promise.specs.Paper.{done}
 use Rattle.text.specs.Rows.{inText}
@@ -67,3 +68,20 @@ module _ (p : Place) (t : List ℕ) where
       go true = inl refl
       go false = inr refl
   mark-placed (edit d at ks f s) m e = absurd (edit-no-mark d f s _ m e)
+
+  -- a mark that is in its place has room
+  pub mark-few : (g : Form) (m : Sel) → placed p t g ≡ mark m → p .marks < markLimit
+  unfolding placed
+  mark-few malformed m e = let z : _≡_ {A = ℕ} 0 1 = cc in absurd (omega arith)
+  mark-few (text s) m e = go (p .sound) e
+    where
+      go : (b : Bool) → cond b malformed (text s) ≡ mark m → p .marks < markLimit
+      go true e = let z : _≡_ {A = ℕ} 0 1 = cc in absurd (omega arith)
+      go false e = let z : _≡_ {A = ℕ} 0 1 = cc in absurd (omega arith)
+  mark-few (mark a) m e = go (not (p .edited)) (ltb (p .marks) markLimit) (inText isLF t (a .anchor)) (inText isLF t (a .head)) refl e
+    where
+      go : (b c d f : Bool) → ltb (p .marks) markLimit ≡ c → cond (b && c && d && f) (mark a) malformed ≡ mark m → p .marks < markLimit
+      go true true d f q e = ltb-true (p .marks) markLimit q
+      go true false d f q e = let z : _≡_ {A = ℕ} 0 1 = cc in absurd (omega arith)
+      go false c d f q e = let z : _≡_ {A = ℕ} 0 1 = cc in absurd (omega arith)
+  mark-few (edit d at ks f s) m e = let z : _≡_ {A = ℕ} 0 1 = cc in absurd (omega arith)

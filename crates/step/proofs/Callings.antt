@@ -62,7 +62,8 @@ module _ (s : State) (w : Whole ℕ) where
     pub accepted : Accepted (core s) w (core (edited s w .state)) inverse
     pub line : i ≡ lined inverse
 
-  once : (a : Applied) → o .answer ≡ done a → Accepted (core s) w (after a o) (returned a o)
+  -- an accepted call is an accepted edit, with what the call returned
+  pub once : (a : Applied) → o .answer ≡ done a → Accepted (core s) w (after a o) (returned a o)
   once a e =
       let f = answer-fits (core s) w (beside s) a e in
       let p = zeros (length (s .buffer)) in

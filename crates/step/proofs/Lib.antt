@@ -2,3 +2,8 @@ pub mod Orders
 pub mod Framing
 pub mod Callings
 pub mod TextLines
+pub mod FlatMarks
+pub mod Carrying
+pub mod Printed
+pub mod Admitted
+pub mod Readies

@@ -4,10 +4,11 @@ use mathlib.Core.Bool.{Bool, true, false, cond, and-comm}
 use mathlib.Core.List.{List}
 use Prim.Native.Nat.{ℕ}
 use native.Mathlib.Nat.{min-comm, max-comm}
+use borrow.Author.Tests.{le-leb}
 use Rattle.text.specs.declared.Position.{Position}
 use Rattle.text.specs.Rows.{upto, earlier, later, inText}
 use Rattle.text.specs.Text.{isLF}
-use Rattle.text.proofs.Order.{earlier-swap, later-swap}
+use Rattle.text.proofs.Order.{row-le, earlier-swap, later-swap, earlier-later}
 use Rattle.edit.specs.declared.View.{View}
 use Rattle.edit.specs.declared.MotionKind.the-variants.{Char, Line, Block}
 use Rattle.edit.specs.declared.Edit.{Edit}
@@ -15,6 +16,7 @@ use Rattle.edit.specs.declared.Edit.the-variants.{InsertChar, InsertStr, Delete
 use Rattle.edit.specs.Edits.{charsDeleted, linesDeleted, replaced, rangeDeleted, editedBy}
 use Rattle.edit.specs.Refusals.{isSpace, spaces, small, smallPosition, smallRange, smallOk, fewRows, fewOk, payloadOk, withinOk}
 use Rattle.edit.specs.Call.{Lent, resultOf, applied, rangeUndoable, isUndoable, undoable}
+use Rattle.shift.specs.Call.{orderedRange, orderedOk}
 use Rattle.step.specs.Steps.{inOrder}
 
 -- what does not depend on the order of two places is the same for the earlier and the later
@@ -126,3 +128,16 @@ yes-same t (DeleteBlockChunks p) = refl
 pub undoable-same : (v : View) (e : Edit) (l : Lent) → undoable v (inOrder e) l ≡ undoable v e l
 unfolding undoable
 undoable-same v e l = rw (small-same, few-same, payload-same, yes-same)
+
+pub in-order : (e : Edit) → orderedOk (inOrder e) ≡ true
+unfolding inOrder orderedOk orderedRange
+in-order (InsertChar p) = refl
+in-order (InsertStr p) = refl
+in-order (DeleteRange p q Char) = earlier-later p q
+in-order (DeleteRange p q Line) = le-leb (earlier p q .row .0) (later p q .row .0) (row-le (earlier p q) (later p q) (earlier-later p q))
+in-order (DeleteRange p q Block) = refl
+in-order (JoinLines r n b) = refl
+in-order (SplitLines r) = refl
+in-order (Replace p q) = earlier-later p q
+in-order (InsertBlock p) = refl
+in-order (DeleteBlockChunks p) = refl

@@ -1,4 +1,8 @@
 // A script, one line at a time.
+mod ends;
+mod marking;
+mod prints;
+
 use edit::View;
 use place::Place;
 

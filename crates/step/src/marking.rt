@@ -1,0 +1,111 @@
+// Marks in a flat slice, five numbers to each: whether it is kept, its anchor and its head.
+use crate::Progress;
+use crate::Script;
+use edit::Edit;
+use select::Sel;
+use shift::Carried;
+use shift::carry_sel;
+use text::Col;
+use text::Position;
+use text::Row;
+ghost use mathlib.Core.Bool.{true};
+ghost use mathlib.Core.List.{[], map};
+ghost use mathlib.Core.Path.{_≡_};
+ghost use Prim.Native.Nat.{_-_, _*_, _≤_, _<_};
+ghost use lib.ListN.{length, getD};
+ghost use lib.Seq.{paste};
+ghost use Rattle.promise.specs.Slices.{over};
+ghost use Rattle.text.specs.Rows.{at};
+ghost use Rattle.text.specs.Text.{textLimit};
+ghost use Rattle.edit.specs.Refusals.{smallOk, fewOk};
+ghost use Rattle.select.specs.Sels.{sel as selOf};
+ghost use Rattle.shift.specs.Answers.{to, dropped};
+ghost use Rattle.shift.specs.Call.{orderedOk};
+ghost use Rattle.step.specs.States.{flatMark, flatMarks, markIn, marksIn};
+ghost use Rattle.step.specs.Carries.{carriedMark};
+
+fn position(row: u32, col: u32) -> Position
+    ensures { λ r. ⌜ r ≡ at row col ⌝ }
+{
+    Position {
+        row: Row(row),
+        col: Col(col),
+    }
+}
+
+// The selection of a mark's five numbers.
+fn sel_in(mark: &[u32]) -> Sel
+    requires { ⌜ length (now mark) ≡ 5 ⌝ }
+    ensures { λ r. ⌜ r ≡ selOf (at (getD (now (mark .entry)) 1 0) (getD (now (mark .entry)) 2 0)) (at (getD (now (mark .entry)) 3 0) (getD (now (mark .entry)) 4 0)) ⌝ }
+{
+    Sel::new(position(mark[1], mark[2]), position(mark[3], mark[4]))
+}
+
+fn put_mark(mark: &mut [u32], sel: Sel)
+    requires { ⌜ length (now mark) ≡ 5 ⌝ }
+    ensures { λ _. ⌜ now (mark .exit) ≡ flatMark (to sel) ⌝ }
+{
+    let anchor = sel.anchor;
+    let head = sel.head;
+    mark[0] = 1;
+    mark[1] = anchor.row.0;
+    mark[2] = anchor.col.0;
+    mark[3] = head.row.0;
+    mark[4] = head.col.0;
+}
+
+fn drop_mark(mark: &mut [u32])
+    requires { ⌜ length (now mark) ≡ 5 ⌝ }
+    ensures { λ _. ⌜ now (mark .exit) ≡ flatMark dropped ⌝ }
+{
+    mark[0] = 0;
+    mark[1] = 0;
+    mark[2] = 0;
+    mark[3] = 0;
+    mark[4] = 0;
+}
+
+// A mark that the script has counted already.
+pub fn keep_mark(script: Script, sel: Sel, marks: &mut [u32]) -> Progress
+    requires { ⌜ (0 < script .place .marks) × (script .place .marks ≤ 64) × (length (now marks) ≡ 320) ⌝ }
+    ensures { λ r. ⌜ (r .script ≡ script) × (r .printed ≡ 0) × (now (marks .exit) ≡ paste (now (marks .entry)) ((script .place .marks - 1) * 5) (flatMark (to sel)) 5) ⌝ }
+{
+    let place = script.place;
+    let at = (place.marks - 1) * 5;
+    put_mark(&mut marks[at..at + 5], sel);
+    Progress { script, printed: 0 }
+}
+
+// One mark over an edit that is accepted.
+fn carry_mark(text: &[u32], edit: Edit, payload: &[u32], first: &[u32], mark: &mut [u32])
+    requires { ⌜ (length (now text) ≤ textLimit) × (smallOk edit (now first) [] ≡ true) × (fewOk (now text) edit (now payload) (now first) [] ≡ true) × (orderedOk edit ≡ true) × (length (now mark) ≡ 5) × (flatMark (markIn (now mark)) ≡ now mark) ⌝ }
+    ensures { λ _. ⌜ now (mark .exit) ≡ flatMark (carriedMark (now (text .entry)) edit (now (payload .entry)) (now (first .entry)) (markIn (now (mark .entry)))) ⌝ }
+{
+    if mark[0] == 0 {
+        return;
+    }
+    let carried = carry_sel(text, edit, payload, first, sel_in(mark));
+    match carried {
+        Carried::At(sel) => put_mark(mark, sel),
+        Carried::Dropped => drop_mark(mark),
+    }
+}
+
+// The first `count` marks over an edit of this text.
+pub fn carry_marks(
+    text: &[u32],
+    edit: Edit,
+    payload: &[u32],
+    first: &[u32],
+    marks: &mut [u32],
+    count: usize,
+)
+    requires { ⌜ (length (now text) ≤ textLimit) × (smallOk edit (now first) [] ≡ true) × (fewOk (now text) edit (now payload) (now first) [] ≡ true) × (orderedOk edit ≡ true) × (count ≤ 64) × (length (now marks) ≡ 320) × (over (flatMarks (marksIn count (now marks))) (now marks) ≡ now marks) ⌝ }
+    ensures { λ _. ⌜ now (marks .exit) ≡ over (flatMarks (map (carriedMark (now (text .entry)) edit (now (payload .entry)) (now (first .entry))) (marksIn count (now (marks .entry))))) (now (marks .entry)) ⌝ }
+{
+    let mut i = 0;
+    while i < count {
+        carry_mark(text, edit, payload, first, &mut marks[i * 5..i * 5 + 5]);
+        i += 1;
+    }
+}

@@ -1,0 +1,47 @@
+// Lines of output.
+use crate::Progress;
+use crate::Script;
+use edit::Refusal;
+use hex::hex;
+ghost use mathlib.Core.List.{[], _∷_};
+ghost use mathlib.Core.Path.{_≡_};
+ghost use Prim.Native.Nat.{_+_, _≤_, _<_};
+ghost use lib.ListN.{length, set};
+ghost use Rattle.promise.specs.Slices.{over};
+ghost use Rattle.edit.specs.Call.{numberOf};
+ghost use Rattle.step.specs.Steps.{printedAs};
+
+const LF: u8 = 10;
+
+// A line of one byte.
+pub fn print_byte(byte: u8, out: &mut [u8])
+    requires { ⌜ 3 ≤ length (now out) ⌝ }
+    ensures { λ _. ⌜ now (out .exit) ≡ over (printedAs (byte ∷ [])) (now (out .entry)) ⌝ }
+{
+    let bytes = [byte; 1];
+    hex(&bytes, out);
+    out[2] = LF;
+}
+
+fn refusal_byte(why: Refusal) -> u8
+    ensures { λ r. ⌜ r ≡ numberOf why ⌝ }
+{
+    why.number() as u8
+}
+
+pub fn refuse(script: Script, why: Refusal, out: &mut [u8]) -> Progress
+    requires { ⌜ 3 ≤ length (now out) ⌝ }
+    ensures { λ r. ⌜ (r .script ≡ script) × (r .printed ≡ 3) × (now (out .exit) ≡ over (printedAs (numberOf why ∷ [])) (now (out .entry))) ⌝ }
+{
+    print_byte(refusal_byte(why), out);
+    Progress { script, printed: 3 }
+}
+
+// A line of so many digits at the front of `out`, ended.
+fn end_line(digits: usize, out: &mut [u8]) -> usize
+    requires { ⌜ digits < length (now out) ⌝ }
+    ensures { λ r. ⌜ (r ≡ digits + 1) × (now (out .exit) ≡ set (now (out .entry)) digits 10) ⌝ }
+{
+    out[digits] = LF;
+    digits + 1
+}
