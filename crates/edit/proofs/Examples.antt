@@ -1,4 +1,4 @@
--- The marked examples and the sample run, computed.
+-- The examples and the sample run, computed.
 use mathlib.Core.Path.{_≡_, refl, _∙_, ap}
 use native.Mathlib.Omega.{arith}
 use mathlib.Core.List.{List, [], _∷_, map, flatten}
@@ -13,28 +13,9 @@ use Rattle.edit.specs.Refusals.{sum, smallRange, smallOk, fewRows, fewOk
 use Rattle.edit.specs.Call.{firstOf, resultOf, leaves, applied, rangeUndoable, isUndoable, undoable}
 use Rattle.edit.specs.Runs.{Run, stop, step, edits, stages}
 use Rattle.edit.specs.Demand3.{State, text, Beside, viewAt, lentAt, Undoable}
-use Rattle.edit.specs.Examples.{opened, MarkedExamples, FurtherExamples, FirstRefusals, sampleEdits, sampleTexts, SampleRun}
+use Rattle.edit.specs.Examples.{opened, FurtherExamples, FirstRefusals, sampleEdits, sampleTexts, SampleRun}
 use Rattle.edit.proofs.Accepted.{holds, doing, Fine}
 use Rattle.edit.proofs.Calls.{Held, next, step-accepted, next-held}
-
-pub marked-examples : MarkedExamples
-unfolding onto lines unlines rowCount lastRow rowLen rowStart clamp offset endOf inText admissible all textOk renewed scalar flatten inserted charsDeleted lineFrom lineTo linesDeleted replaced gap joinRow joinCols joinFlags put putAll padsOf pieces cutAll chunksOf anyFlag joined unspace splitFirst splitRow split blockInserted chunksDeleted rangeDeleted editedBy sum smallRange smallOk fewRows fewOk payloadOk withinFirst withinAll withinOk roomOk recordOk wide firstOf resultOf leaves applied rangeUndoable isUndoable undoable
-marked-examples = record {
-  one = refl;
-  two = refl;
-  four = refl;
-  four-undoable = refl;
-  five = refl;
-  six = refl;
-  seven = refl;
-  eight = refl;
-  nine = refl;
-  ten = refl;
-  ten-back = refl;
-  eleven = refl;
-  eleven-refused = refl;
-  fourteen = refl;
-}
 
 pub further-examples : FurtherExamples
 unfolding onto lines unlines rowCount lastRow rowLen rowStart clamp offset endOf inText admissible all textOk renewed scalar flatten inserted charsDeleted lineFrom lineTo linesDeleted replaced gap joinRow joinCols joinFlags put putAll padsOf pieces cutAll chunksOf anyFlag joined unspace splitFirst splitRow split blockInserted chunksDeleted rangeDeleted editedBy sum smallRange smallOk fewRows fewOk payloadOk withinFirst withinAll withinOk roomOk recordOk wide firstOf resultOf leaves applied rangeUndoable isUndoable undoable

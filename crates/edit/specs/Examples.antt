@@ -1,5 +1,5 @@
--- Document 01's marked examples that concern texts and edits: 1 and 2 as row counts, the others as equations of the whole call.
--- Then more of its sentences as examples, refusals in order, and a run of every kind that demand 3 names. In a text "/" is LF, 10; a is 97, X is 88, a space 32.
+-- Sentences of document 01 as examples, equations of the whole call; refusals in order; and a run of every kind that demand 3 names.
+-- Its marked examples are in crate `marked`. In a text "/" is LF, 10; a is 97, X is 88, a space 32.
 use mathlib.Core.Path.{_≡_}
 use mathlib.Core.Bool.{true, false}
 use mathlib.Core.List.{List, [], _∷_, _++_, map}
@@ -53,40 +53,6 @@ abcdef = 97 ∷ 98 ∷ 10 ∷ 99 ∷ 100 ∷ 101 ∷ 102 ∷ []
 -- "abc/d"
 abbrev pub abcd : List ℕ
 abcd = 97 ∷ 98 ∷ 99 ∷ 10 ∷ 100 ∷ []
-
-pub record MarkedExamples : Type 0 where
-  -- "1. Empty: one row."
-  pub one : rowCount isLF [] ≡ 1
-  -- "2. "a/": two."
-  pub two : rowCount isLF (97 ∷ 10 ∷ []) ≡ 2
-  -- "4. "ab/cdef", Char (0,99)-(1,2): "abef", inverse at (0,99) "/cd", cursor (0,4), not undoable."
-  pub four : Gives abcdef (plain (DeleteRange (at 0 99) (at 1 2) Char) []) (97 ∷ 98 ∷ 101 ∷ 102 ∷ []) (plain (InsertStr (at 0 99)) (10 ∷ 99 ∷ 100 ∷ [])) (at 0 4)
-  pub four-undoable : undoable (viewAt (opened abcdef) beside) (DeleteRange (at 0 99) (at 1 2) Char) (lentAt (opened abcdef) (plain (DeleteRange (at 0 99) (at 1 2) Char) []) beside) ≡ done false
-  -- "5. "a/b", Line row 1: "a", inverse (0,1) "/b", cursor (0,0)."
-  pub five : Gives (97 ∷ 10 ∷ 98 ∷ []) (plain (DeleteRange (at 1 0) (at 1 0) Lines) []) (97 ∷ []) (plain (InsertStr (at 0 1)) (10 ∷ 98 ∷ [])) (at 0 0)
-  -- "6. "", Line: "" and empty inverse."
-  pub six : Gives [] (plain (DeleteRange (at 0 0) (at 0 0) Lines) []) [] (plain (InsertStr (at 0 0)) []) (at 0 0)
-  -- "7. "a//b", join 0 count 0 with space: "a/b", column 1, no space."
-  pub seven : Gives (97 ∷ 10 ∷ 10 ∷ 98 ∷ []) (plain (JoinLines (rowAt 0) 0 true) []) (97 ∷ 10 ∷ 98 ∷ []) (whole (SplitLines (rowAt 0)) [] (1 ∷ []) (0 ∷ [])) (at 0 0)
-  -- "8. "a/b/c", join 0 count 5 with space: "a b c", columns 1, 3, both spaced."
-  pub eight : Gives (97 ∷ 10 ∷ 98 ∷ 10 ∷ 99 ∷ []) (plain (JoinLines (rowAt 0) 5 true) []) (97 ∷ 32 ∷ 98 ∷ 32 ∷ 99 ∷ []) (whole (SplitLines (rowAt 0)) [] (1 ∷ 3 ∷ []) (1 ∷ 1 ∷ [])) (at 0 0)
-  -- "9. "abc/d", block at (0,2) "X","Y": "abXc/d Y", pads 0, 1."
-  pub nine :
-      Gives abcd (whole (InsertBlock (at 0 2)) (88 ∷ 89 ∷ []) (1 ∷ 1 ∷ []) []) (97 ∷ 98 ∷ 88 ∷ 99 ∷ 10 ∷ 100 ∷ 32 ∷ 89 ∷ [])
-      (whole (DeleteBlockChunks (at 0 2)) [] (1 ∷ 1 ∷ []) (0 ∷ 1 ∷ [])) (at 0 2)
-  -- "10. "abc/d", Block (0,2)-(1,2): "ab/d"; inverse gives "abc/d "."
-  pub ten : Gives abcd (plain (DeleteRange (at 0 2) (at 1 2) Block) []) (97 ∷ 98 ∷ 10 ∷ 100 ∷ []) (whole (InsertBlock (at 0 2)) (99 ∷ []) (1 ∷ 0 ∷ []) []) (at 0 2)
-  pub ten-back :
-      Gives (97 ∷ 98 ∷ 10 ∷ 100 ∷ []) (whole (InsertBlock (at 0 2)) (99 ∷ []) (1 ∷ 0 ∷ []) []) (97 ∷ 98 ∷ 99 ∷ 10 ∷ 100 ∷ 32 ∷ [])
-      (whole (DeleteBlockChunks (at 0 2)) [] (1 ∷ 0 ∷ []) (0 ∷ 1 ∷ [])) (at 0 2)
-  -- "11. "abc", split 3 yes: "abc/"; 4 yes: refusal 7."
-  pub eleven : Gives (97 ∷ 98 ∷ 99 ∷ []) (whole (SplitLines (rowAt 0)) [] (3 ∷ []) (1 ∷ [])) (97 ∷ 98 ∷ 99 ∷ 10 ∷ []) (plain (JoinLines (rowAt 0) 1 true) []) (at 0 0)
-  pub eleven-refused : Refuses (97 ∷ 98 ∷ 99 ∷ []) (whole (SplitLines (rowAt 0)) [] (4 ∷ []) (1 ∷ [])) 7
-  -- "14. Case 4 as Replace "X": "abefX"."
-  pub fourteen :
-      Gives abcdef (plain (Replace (at 0 99) (at 1 2)) (88 ∷ [])) (97 ∷ 98 ∷ 101 ∷ 102 ∷ 88 ∷ []) (plain (Replace (at 0 4) (at 0 5)) (10 ∷ 99 ∷ 100 ∷ [])) (at 0 5)
-
--- ---- what the marked ones leave open
 
 -- "abc", "abcd" and "a/b/c"
 abbrev pub abc : List ℕ

@@ -6,8 +6,6 @@ use Rattle.promise.specs.Paper.{done, refused}
 use Rattle.merge.specs.Call.{outcome, mergedIn}
 
 pub record Examples : Type 0 where
-  -- marked example 12: "Selections (0,0)-(0,3), (0,5)-(0,3): (0,0)-(0,5)."
-  pub twelve : mergedIn (0 ∷ 0 ∷ 0 ∷ 3 ∷ 0 ∷ 5 ∷ 0 ∷ 3 ∷ []) (replicate 12 9) ≡ outcome (done 1) (0 ∷ 0 ∷ 0 ∷ 5 ∷ replicate 8 9)
   -- touching is not sharing, and the second comes first
   pub touching : mergedIn (0 ∷ 5 ∷ 0 ∷ 4 ∷ 0 ∷ 0 ∷ 0 ∷ 3 ∷ []) (replicate 12 9) ≡ outcome (done 2) (0 ∷ 0 ∷ 0 ∷ 3 ∷ 0 ∷ 5 ∷ 0 ∷ 4 ∷ replicate 4 9)
   -- two equal backward ones become one forward

@@ -14,7 +14,6 @@ use Rattle.shift.specs.Examples.{Examples, FirstRefusals, Moves}
 pub examples : Examples
 unfolding scalar onto lines rowCount lastRow rowLen admissible all textOk sum smallRange smallOk fewRows fewOk payloadOk firstOf gapLen afterInsert afterDeleteChar afterDeleteLines afterDeleteBlock startCols afterJoin afterInsertBlock afterDeleteBlockChunks afterDelete shifted orderedRange orderedOk positionShifted selShifted
 examples = record {
-  thirteen = refl;
   run = refl;
   run-back = refl;
   join-plain = refl;

@@ -29,8 +29,6 @@ abbrev pub abcd : List ℕ
 abcd = 97 ∷ 98 ∷ 10 ∷ 99 ∷ 100 ∷ []
 
 pub record Examples : Type 0 where
-  -- marked example 13: ""ab/cd" joined with space: (1,2) to (0,5)."
-  pub thirteen : Lands abcd (JoinLines (rowAt 0) 1 true) [] [] (at 1 2) (at 0 5)
   -- document 01's run: over "X/" at (0,1), the mark (1,1)-(1,2)
   pub run : selShifted abcd 5 (InsertStr (at 0 1)) (88 ∷ 10 ∷ []) [] [] (sel (at 1 1) (at 1 2)) ≡ done (to (sel (at 2 1) (at 2 2)))
   -- an end at the insertion moves with the text behind it, and the ends keep their direction

@@ -1,0 +1,1 @@
+// Document 01's marked examples: nothing to run, one table to prove.
