@@ -7,3 +7,6 @@ pub mod Carrying
 pub mod Printed
 pub mod Admitted
 pub mod Readies
+pub mod WrittenLines
+pub mod Loading
+pub mod TextFrames

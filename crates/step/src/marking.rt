@@ -1,6 +1,7 @@
 // Marks in a flat slice, five numbers to each: whether it is kept, its anchor and its head.
 use crate::Progress;
 use crate::Script;
+use crate::prints::print_byte;
 use edit::Edit;
 use select::Sel;
 use shift::Carried;
@@ -8,6 +9,7 @@ use shift::carry_sel;
 use text::Col;
 use text::Position;
 use text::Row;
+use writer::write_mark;
 ghost use mathlib.Core.Bool.{true};
 ghost use mathlib.Core.List.{[], map};
 ghost use mathlib.Core.Path.{_≡_};
@@ -22,6 +24,7 @@ ghost use Rattle.select.specs.Sels.{sel as selOf};
 ghost use Rattle.shift.specs.Answers.{to, dropped};
 ghost use Rattle.shift.specs.Call.{orderedOk};
 ghost use Rattle.step.specs.States.{flatMark, flatMarks, markIn, marksIn};
+ghost use Rattle.step.specs.Steps.{markLine};
 ghost use Rattle.step.specs.Carries.{carriedMark};
 
 fn position(row: u32, col: u32) -> Position
@@ -108,4 +111,18 @@ pub fn carry_marks(
         carry_mark(text, edit, payload, first, &mut marks[i * 5..i * 5 + 5]);
         i += 1;
     }
+}
+
+// The line of a mark, or 03 alone.
+pub fn print_mark(mark: &[u32], out: &mut [u8]) -> usize
+    requires { ⌜ (length (now mark) ≡ 5) × (35 ≤ length (now out)) ⌝ }
+    ensures { λ r. ⌜ (now (out .exit) ≡ over (markLine (markIn (now (mark .entry)))) (now (out .entry))) × (r ≡ length (markLine (markIn (now (mark .entry))))) ⌝ }
+{
+    if mark[0] == 0 {
+        print_byte(0x03, out);
+        return 3;
+    }
+    write_mark(sel_in(mark), out);
+    out[34] = 10;
+    35
 }

@@ -3,12 +3,18 @@ use crate::Progress;
 use crate::Script;
 use edit::Refusal;
 use hex::hex;
+use writer::Written;
+use writer::write_text;
 ghost use mathlib.Core.List.{[], _∷_};
 ghost use mathlib.Core.Path.{_≡_};
 ghost use Prim.Native.Nat.{_+_, _≤_, _<_};
 ghost use lib.ListN.{length, set};
+ghost use Rattle.promise.specs.Paper.{done};
 ghost use Rattle.promise.specs.Slices.{over};
+ghost use Rattle.hex.specs.Digits.{hexed};
 ghost use Rattle.edit.specs.Call.{numberOf};
+ghost use Rattle.frame.specs.Format.{text as textFrame, edit as editFrame, frameBytes};
+ghost use Rattle.frame.specs.Writes.{lineOf};
 ghost use Rattle.step.specs.Steps.{printedAs};
 
 const LF: u8 = 10;
@@ -44,4 +50,16 @@ fn end_line(digits: usize, out: &mut [u8]) -> usize
 {
     out[digits] = LF;
     digits + 1
+}
+
+// The frame of a text, which a line holds.
+pub fn print_text(text: &[u32], out: &mut [u8]) -> usize
+    requires { ⌜ (36_867 ≤ length (now out)) × (lineOf (textFrame (now text)) ≡ done (hexed (frameBytes (textFrame (now text))))) ⌝ }
+    ensures { λ r. ⌜ (now (out .exit) ≡ over (printedAs (frameBytes (textFrame (now (text .entry))))) (now (out .entry))) × (r ≡ length (printedAs (frameBytes (textFrame (now (text .entry)))))) ⌝ }
+{
+    let written = write_text(text, out);
+    match written {
+        Written::Digits(count) => end_line(count, out),
+        Written::Refused(_) => 0,
+    }
 }
