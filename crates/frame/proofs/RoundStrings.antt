@@ -84,7 +84,7 @@ strings-back (suc n) (k ∷ ks) h = strings-step n k (stringBytes ks) ∙ ap (be
 pub strings-read : (ks : List (List ℕ)) → stringsIn (chunkBytes ks) ≡ cut (map writing ks)
 strings-read ks = rw (chunk-strings ks) (strings-back _ (map writing ks) (strings-many (map writing ks)))
 
-before-cut : (k : List ℕ) (c : Cut) (ks : List (List ℕ)) → before k c ≡ cut ks → (js : List (List ℕ)) × (c ≡ cut js) × (k ∷ js ≡ ks)
+pub before-cut : (k : List ℕ) (c : Cut) (ks : List (List ℕ)) → before k c ≡ cut ks → (js : List (List ℕ)) × (c ≡ cut js) × (k ∷ js ≡ ks)
 unfolding before
 before-cut k broken ks e = let z : _≡_ {A = ℕ} 0 1 = cc in absurd (omega arith)
 before-cut k (cut js) ks e = (js, refl, cc)

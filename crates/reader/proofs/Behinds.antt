@@ -15,7 +15,7 @@ use Rattle.utf8.proofs.Theorems.{writes-read}
 use Rattle.reader.proofs.Decodes.{stored-fits}
 
 -- a string has no more characters than bytes
-written-more : (cs : List ℕ) → length cs ≤ length (writing cs)
+pub written-more : (cs : List ℕ) → length cs ≤ length (writing cs)
 unfolding writing
 written-more [] = omega arith
 written-more (c ∷ cs) = let h = written-more cs in simp length-append (omega (arith, octets-len c .0))

@@ -1,2 +1,3 @@
 pub mod Scripts
+pub mod Calls
 pub mod Undo

@@ -7,10 +7,11 @@ use native.Mathlib.Omega.{arith}
 use native.Mathlib.Numerals.{add-one}
 use borrow.Author.Tests.{eq-eqb, ne-eqb}
 use lib.ListN.{length, take, drop, getD, length-map, drop-of-length-le}
-use lib.Seq.{drop-cons, take-suc, take-all, take-at, drop-at, length-take-le}
+use lib.Seq.{paste, drop-cons, take-suc, take-all, take-at, drop-at, length-take-le}
 use Rattle.promise.specs.Paper.{done}
 use Rattle.promise.specs.Slices.{over}
 use Rattle.promise.proofs.Bools.{T-true}
+use Rattle.splice.proofs.Overs.{paste-over}
 use Rattle.text.specs.Rows.{at}
 use Rattle.text.specs.Text.{textOk}
 use Rattle.edit.specs.declared.Edit.{Edit}
@@ -124,3 +125,18 @@ module _ (s : State) (w : Whole ℕ) (g : verdictOf (givenTests (s .view) (w .ed
   pub moved-marks : (ms : List (Followed Sel)) → map (carried s w) ms ≡ map over-edit ms
   moved-marks [] = refl
   moved-marks (m ∷ ms) = rw (moved-mark m) (ap (λ (l : List (Followed Sel)). over-edit m ∷ l) (moved-marks ms))
+
+-- a slice copied over one of its length
+pub copied : (d s : List ℕ) → length s ≡ length d → paste d 0 s (length s) ≡ s
+copied d s e = let h : length d ≤ length s = omega arith in paste-over d s ∙ rw (drop-of-length-le d h, append-nil)
+
+-- marks copied, and carried there
+module _ (f : Followed Sel → Followed Sel) (n : ℕ) (m d t : List ℕ) (l : length m ≡ 320) (k : length d ≡ 320) (q : t ≡ paste d 0 m (length m)) where
+  there : t ≡ m
+  there = q ∙ copied d m (omega arith)
+
+  pub copy-holds : over (flatMarks (marksIn n m)) m ≡ m → (length t ≡ 320) × (over (flatMarks (marksIn n t)) t ≡ t)
+  copy-holds h = (omega (arith, ap length there), rw there h)
+
+  pub copy-carried : (u : List ℕ) → u ≡ over (flatMarks (map f (marksIn n t))) t → u ≡ over (flatMarks (map f (marksIn n m))) m
+  copy-carried u e = rw there at e

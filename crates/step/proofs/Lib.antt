@@ -10,3 +10,6 @@ pub mod Readies
 pub mod WrittenLines
 pub mod Loading
 pub mod TextFrames
+pub mod InverseLine
+pub mod EditLeaves
+pub mod Stepping

@@ -3,9 +3,11 @@ use mathlib.Core.Bool.{true}
 use mathlib.Core.List.{List}
 use mathlib.Core.Path.{_≡_}
 use Prim.Native.Nat.{ℕ, _≤_}
-use lib.ListN.{length}
+use lib.ListN.{length, take}
 use Rattle.promise.specs.Slices.{over}
 use Rattle.text.specs.Text.{textOk}
+use Rattle.edit.specs.declared.Applied.{Applied}
+use Rattle.edit.specs.Edits.{Whole, whole}
 use Rattle.place.specs.Places.{markLimit}
 use Rattle.step.specs.declared.Script.{Script}
 use Rattle.step.specs.declared.Progress.{Progress}
@@ -39,6 +41,10 @@ leaves x m o =
 
 abbrev pub stepLeaves : Script → List ℕ → List ℕ → List ℕ → List ℕ → Left
 stepLeaves c l t m o = leaves (step (stateOf c t m) l) m o
+
+-- the inverse as an accepted call left it in slices
+abbrev pub inverseIn : Applied → List ℕ → List ℕ → List ℕ → Whole ℕ
+inverseIn a x f s = whole (a .inverse) (take (a .payload) x) (take (a .first) f) (take (a .second) s)
 
 -- the same of a function that no marks are lent to
 pub record Part : Type 0 where

@@ -1,18 +1,29 @@
 // A script, one line at a time.
+mod edits;
 mod ends;
 mod loads;
 mod marking;
 mod prints;
 
+use crate::edits::step_edit;
+use crate::loads::step_text;
+use crate::marking::keep_mark;
+use crate::prints::refuse;
+use edit::Refusal;
 use edit::View;
+use frame::Head;
 pub use marking::print_mark;
 use place::Place;
+use place::judge;
 pub use prints::print_text;
 use text::Col;
 use text::Position;
 use text::Row;
 ghost use mathlib.Core.Path.{_≡_};
+ghost use Prim.Native.Nat.{_≤_};
+ghost use lib.ListN.{length};
 ghost use Rattle.step.specs.States.{scriptOf, opening};
+ghost use Rattle.step.specs.Calls.{Ready, left, stepLeaves};
 
 // How long the slices are that a script is run on: its text's, its marks', and the room for what a line prints.
 pub const TEXT_ROOM: usize = 4_096;
@@ -51,5 +62,33 @@ pub fn opening() -> Script
             marks: 0,
             edited: false,
         },
+    }
+}
+
+// One line, without its LF. What it prints, with its LF, goes to the front of `out`.
+pub fn step(
+    script: Script,
+    line: &[u8],
+    text: &mut [u32],
+    marks: &mut [u32],
+    out: &mut [u8],
+) -> Progress
+    requires { ⌜ Ready script (now text) (now marks) × (36_867 ≤ length (now out)) ⌝ }
+    ensures { λ r. ⌜ left r (now (text .exit)) (now (marks .exit)) (now (out .exit)) ≡ stepLeaves script (now (line .entry)) (now (text .entry)) (now (marks .entry)) (now (out .entry)) ⌝ }
+    ensures { λ r. ⌜ Ready (r .script) (now (text .exit)) (now (marks .exit)) × (r .printed ≤ 36_867) ⌝ }
+{
+    let view = script.view;
+    let place = script.place;
+    let used = view.used;
+    let head = judge(place, &text[0..used], line);
+    let next = Script {
+        view,
+        place: place.seen(head),
+    };
+    match head {
+        Head::Malformed => refuse(next, Refusal::BadFrame, out),
+        Head::Text => step_text(next, line, text, out),
+        Head::Mark(sel) => keep_mark(next, sel, marks),
+        Head::Edit(_) => step_edit(next, line, text, marks, out),
     }
 }

@@ -6,6 +6,8 @@ use edit::Edit;
 use select::Sel;
 use shift::Carried;
 use shift::carry_sel;
+use splice::copy_in;
+use text::CharOffset;
 use text::Col;
 use text::Position;
 use text::Row;
@@ -95,7 +97,7 @@ fn carry_mark(text: &[u32], edit: Edit, payload: &[u32], first: &[u32], mark: &m
 }
 
 // The first `count` marks over an edit of this text.
-pub fn carry_marks(
+fn carry_marks(
     text: &[u32],
     edit: Edit,
     payload: &[u32],
@@ -111,6 +113,23 @@ pub fn carry_marks(
         carry_mark(text, edit, payload, first, &mut marks[i * 5..i * 5 + 5]);
         i += 1;
     }
+}
+
+// The marks that `marks` holds, carried over an edit of this text, in `moved`.
+pub fn carry_copy(
+    text: &[u32],
+    edit: Edit,
+    payload: &[u32],
+    first: &[u32],
+    marks: &[u32],
+    moved: &mut [u32],
+    count: usize,
+)
+    requires { ⌜ (length (now text) ≤ textLimit) × (smallOk edit (now first) [] ≡ true) × (fewOk (now text) edit (now payload) (now first) [] ≡ true) × (orderedOk edit ≡ true) × (count ≤ 64) × (length (now marks) ≡ 320) × (length (now moved) ≡ 320) × (over (flatMarks (marksIn count (now marks))) (now marks) ≡ now marks) ⌝ }
+    ensures { λ _. ⌜ now (moved .exit) ≡ over (flatMarks (map (carriedMark (now (text .entry)) edit (now (payload .entry)) (now (first .entry))) (marksIn count (now (marks .entry))))) (now (marks .entry)) ⌝ }
+{
+    copy_in(moved, CharOffset(0), marks);
+    carry_marks(text, edit, payload, first, moved, count);
 }
 
 // The line of a mark, or 03 alone.

@@ -1,9 +1,11 @@
 // Lines of output.
 use crate::Progress;
 use crate::Script;
+use edit::Edit;
 use edit::Refusal;
 use hex::hex;
 use writer::Written;
+use writer::write_edit;
 use writer::write_text;
 ghost use mathlib.Core.List.{[], _∷_};
 ghost use mathlib.Core.Path.{_≡_};
@@ -12,6 +14,7 @@ ghost use lib.ListN.{length, set};
 ghost use Rattle.promise.specs.Paper.{done};
 ghost use Rattle.promise.specs.Slices.{over};
 ghost use Rattle.hex.specs.Digits.{hexed};
+ghost use Rattle.edit.specs.Edits.{whole};
 ghost use Rattle.edit.specs.Call.{numberOf};
 ghost use Rattle.frame.specs.Format.{text as textFrame, edit as editFrame, frameBytes};
 ghost use Rattle.frame.specs.Writes.{lineOf};
@@ -50,6 +53,25 @@ fn end_line(digits: usize, out: &mut [u8]) -> usize
 {
     out[digits] = LF;
     digits + 1
+}
+
+// 00 and the frame of an inverse, which a line holds.
+pub fn print_inverse(
+    inverse: Edit,
+    payload: &[u32],
+    first: &[u32],
+    second: &[u32],
+    out: &mut [u8],
+) -> usize
+    requires { ⌜ (36_867 ≤ length (now out)) × (lineOf (editFrame (whole inverse (now payload) (now first) (now second))) ≡ done (hexed (frameBytes (editFrame (whole inverse (now payload) (now first) (now second)))))) ⌝ }
+    ensures { λ r. ⌜ (now (out .exit) ≡ over (printedAs (0 ∷ frameBytes (editFrame (whole inverse (now (payload .entry)) (now (first .entry)) (now (second .entry)))))) (now (out .entry))) × (r ≡ length (printedAs (0 ∷ frameBytes (editFrame (whole inverse (now (payload .entry)) (now (first .entry)) (now (second .entry))))))) ⌝ }
+{
+    print_byte(0, out);
+    let written = write_edit(inverse, payload, first, second, &mut out[2..]);
+    match written {
+        Written::Digits(count) => end_line(count + 2, out),
+        Written::Refused(_) => 0,
+    }
 }
 
 // The frame of a text, which a line holds.
