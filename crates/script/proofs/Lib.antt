@@ -4,3 +4,9 @@ pub mod Openings
 pub mod Forward
 pub mod Back
 pub mod Undo
+pub mod Goings
+pub mod Endings
+pub mod Reaches
+pub mod Stepping
+pub mod Twice
+pub mod Theorems

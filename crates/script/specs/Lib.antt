@@ -1,3 +1,5 @@
 pub mod Scripts
+pub mod Courses
 pub mod Calls
 pub mod Undo
+pub mod Theorems

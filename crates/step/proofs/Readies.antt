@@ -89,10 +89,11 @@ module _ (s : State) (w : Whole ℕ) (a : Applied) where
 
 -- ---- after a line
 
--- ready for the next line, and no more printed than a line of 36,864 digits, the two of 00, and LF
+-- ready for the next line, with as many marks as are counted, and no more printed than a line of 36,864 digits, the two of 00, and LF
 pub record Onward (x : Stepped) (m : List ℕ) : Type 0 where
   pub ready : Ready (scriptOf (x .state)) (x .state .buffer) (over (flatMarks (x .state .marks)) m)
   pub short : length (x .printed) ≤ 36_867
+  pub count : length (x .state .marks) ≡ x .state .place .marks
 
 stands : (s : State) (m : List ℕ) → textOk (s .buffer) (s .view .used) ≡ true → length (s .buffer) ≤ bufferLimit → length m ≡ 320 → s .place .marks ≤ markLimit → length (s .marks) ≡ s .place .marks
     → Ready (scriptOf s) (s .buffer) (over (flatMarks (s .marks)) m)
@@ -121,7 +122,7 @@ module _ (c : Script) (t m : List ℕ) (h : Ready c t m) where
 
   pub ready-refused : (n : ℕ) → Onward (refuses s n) m
   ready-refused n =
-      record { ready = stands s m (h .admitted) (h .small) (h .room) (h .few) (count-marks (c .place .marks) m); short = omega (arith, printed-length (n ∷ [])) }
+      record { ready = stands s m (h .admitted) (h .small) (h .room) (h .few) (count-marks (c .place .marks) m); short = omega (arith, printed-length (n ∷ [])); count = count-marks (c .place .marks) m }
 
   pub ready-loaded : (cs : List ℕ) → Onward (loaded s cs) m
   unfolding loaded
@@ -135,6 +136,7 @@ module _ (c : Script) (t m : List ℕ) (h : Ready c t m) where
           record {
             ready = stands (holding cs) m (k .0) (omega (arith, k .1, h .small)) (h .room) (h .few) (count-marks (c .place .marks) m);
             short = omega arith;
+            count = count-marks (c .place .marks) m;
           }
       go false q e f = ready-refused 1
 
@@ -142,7 +144,7 @@ module _ (c : Script) (t m : List ℕ) (h : Ready c t m) where
       → Onward (stepped (state (c .view) t p (s .marks ++ (to k ∷ []))) []) m
   ready-mark k p e f =
       let n : length (s .marks ++ (to k ∷ [])) ≡ p .marks = rw length-append (omega (arith, count-marks (c .place .marks) m)) in
-      record { ready = stands (state (c .view) t p (s .marks ++ (to k ∷ []))) m (h .admitted) (h .small) (h .room) (omega arith) n; short = omega arith }
+      record { ready = stands (state (c .view) t p (s .marks ++ (to k ∷ []))) m (h .admitted) (h .small) (h .room) (omega arith) n; short = omega arith; count = n }
 
   -- its five numbers behind those of the marks before it
   pub mark-kept : (k : Sel) → c .place .marks < markLimit → paste m ((suc (c .place .marks) - 1) * 5) (flatMark (to k)) 5 ≡ over (flatMarks (s .marks ++ (to k ∷ []))) m
@@ -169,6 +171,7 @@ module _ (c : Script) (t m : List ℕ) (h : Ready c t m) where
           record {
             ready = stands (state (a .view) (r .text) (c .place) (map (carried s w) (s .marks))) m (accepted-text s w a e) (omega (arith, h .small)) (h .room) (h .few) k;
             short = omega (arith, printed-length (0 ∷ frameBytes (format.edit (returned a r))));
+            count = k;
           }
       go (refused n k) e = ready-refused n
 
@@ -219,6 +222,9 @@ module _ (c : Script) (t m l : List ℕ) (h : Ready c t m) where
 
   pub printed-short : length (step (stateOf c t m) l .printed) ≤ 36_867
   printed-short = after-step .short
+
+  pub marks-counted : let x = step (stateOf c t m) l in length (x .state .marks) ≡ x .state .place .marks
+  marks-counted = after-step .count
 
 -- ---- at the start
 
