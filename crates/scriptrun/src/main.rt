@@ -21,11 +21,12 @@ const LF: u8 = 10;
 // One more than a line's digits: a line that fills it is too long, whatever follows.
 const PENDING_ROOM: usize = 36_865;
 
-// The script, how much of a line has come, and how much is gathered to be written.
+// The script, how much of a line has come, how much is gathered to be written, and whether the input has ended.
 struct Feed {
     script: Script,
     pending: usize,
     gathered: usize,
+    ended: bool,
 }
 
 // Writes what is gathered, unless there is room for another line; how much is gathered then.
@@ -52,6 +53,7 @@ fn run_line(feed: Feed, line: &[u8], text: &mut [u32], marks: &mut [u32], out: &
         script: after,
         pending: 0,
         gathered: start + progress.printed,
+        ended: false,
     }
 }
 
@@ -79,6 +81,7 @@ fn take_byte(
         script,
         pending: pending + 1,
         gathered: feed.gathered,
+        ended: false,
     }
 }
 
@@ -138,28 +141,71 @@ fn print_ending(script: Script, text: &[u32], marks: &[u32], out: &mut [u8])
     print_marks(marks, count, out);
 }
 
-// All of the input, as it comes. A proved loop has to end, so it counts its turns down from a number that no input uses up.
-fn read_all(line: &mut [u8], text: &mut [u32], marks: &mut [u32], out: &mut [u8]) -> Feed
-    requires { ⌜ Ready (scriptOf start) (now text) (now marks) × (36_867 ≤ length (now out)) ⌝ }
-    ensures { λ r. ⌜ Ready (r .script) (now (text .exit)) (now (marks .exit)) × (r .gathered ≤ length (now (out .entry))) ⌝ }
+// What has come of the input.
+fn read_some(
+    feed: Feed,
+    line: &mut [u8],
+    text: &mut [u32],
+    marks: &mut [u32],
+    out: &mut [u8],
+) -> Feed
+    requires { ⌜ Ready (feed .script) (now text) (now marks) × (feed .pending ≤ length (now line)) × (feed .gathered ≤ length (now out)) × (36_867 ≤ length (now out)) ⌝ }
+    ensures { λ r. ⌜ Ready (r .script) (now (text .exit)) (now (marks .exit)) × (r .pending ≤ length (now (line .entry))) × (r .gathered ≤ length (now (out .entry))) ⌝ }
 {
     let mut input = io::large_buffer();
-    let mut feed = Feed {
+    let got = libc::read(STDIN_FILENO, &mut input);
+    let count = io::count(got, &input);
+    if count == 0 {
+        let script = feed.script;
+        return Feed {
+            script,
+            pending: feed.pending,
+            gathered: feed.gathered,
+            ended: true,
+        };
+    }
+    take_bytes(feed, &input[0..count], line, text, marks, out)
+}
+
+// All of the input. A proved loop has to end, so it counts its turns down from a number that no input uses up.
+fn read_all(
+    feed: Feed,
+    line: &mut [u8],
+    text: &mut [u32],
+    marks: &mut [u32],
+    out: &mut [u8],
+) -> Feed
+    requires { ⌜ Ready (feed .script) (now text) (now marks) × (feed .pending ≤ length (now line)) × (feed .gathered ≤ length (now out)) × (36_867 ≤ length (now out)) ⌝ }
+    ensures { λ r. ⌜ Ready (r .script) (now (text .exit)) (now (marks .exit)) × (r .gathered ≤ length (now (out .entry))) ⌝ }
+{
+    let mut fed = feed;
+    let mut turns = u64::MAX;
+    while turns > 0 {
+        if fed.ended {
+            return fed;
+        }
+        fed = read_some(fed, line, text, marks, out);
+        turns -= 1;
+    }
+    fed
+}
+
+// The script from its opening to its ending.
+fn run(line: &mut [u8], text: &mut [u32], marks: &mut [u32], out: &mut [u8])
+    requires { ⌜ Ready (scriptOf start) (now text) (now marks) × (36_867 ≤ length (now out)) ⌝ }
+{
+    let feed = Feed {
         script: opening(),
         pending: 0,
         gathered: 0,
+        ended: false,
     };
-    let mut turns = u64::MAX;
-    while turns > 0 {
-        let got = libc::read(STDIN_FILENO, &mut input);
-        let count = io::count(got, &input);
-        if count == 0 {
-            return feed;
-        }
-        feed = take_bytes(feed, &input[0..count], line, text, marks, out);
-        turns -= 1;
-    }
-    feed
+    let read = read_all(feed, line, text, marks, out);
+    let ended = end_input(read, text, marks, out);
+    let gathered = ended.gathered;
+    let script = ended.script;
+    io::write_all(STDOUT_FILENO, &out[0..gathered]);
+    print_ending(script, text, marks, out);
 }
 
 fn main() {
@@ -167,10 +213,5 @@ fn main() {
     let mut text = [0u32; TEXT_ROOM];
     let mut marks = [0u32; MARK_ROOM];
     let mut out = [0u8; 131_072];
-    let read = read_all(&mut line, &mut text, &mut marks, &mut out);
-    let ended = end_input(read, &mut text, &mut marks, &mut out);
-    let gathered = ended.gathered;
-    let script = ended.script;
-    io::write_all(STDOUT_FILENO, &out[0..gathered]);
-    print_ending(script, &text, &marks, &mut out);
+    run(&mut line, &mut text, &mut marks, &mut out);
 }

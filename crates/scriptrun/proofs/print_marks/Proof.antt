@@ -1,14 +1,12 @@
+use Rattle.step.specs.States.{markIn}
+use Rattle.script.proofs.Endings.{mark-short}
 use mathlib.Core.Path.{_≡_}
-use Prim.Native.Nat.{_≤_, _-_}
-use lib.ListN.{length}
+use Prim.Native.Nat.{_≤_, _+_, _-_, _*_}
+use lib.ListN.{length, take, drop}
 use native.Mathlib.Omega.{arith}
 use borrow.Author.Needs.{needs}
 use Rattle.scriptrun.proofs.print_marks.Statement.{statement}
 use Rattle.scriptrun.proofs.print_marks.Tie as tie
-use Rattle.scriptrun.proofs.print_marks.Reads as reads
-use Rattle.scriptrun.proofs.print_marks.Lts as lts
-use Rattle.io.proofs.write_all.Reads as write-all-reads
-use Rattle.step.proofs.print_mark.Reads as print-mark-reads
 
 abbrev Inv-loop : tie.InvT-loop
 Inv-loop marks count out₀ i₀ out i = (i ≤ count) × (length out ≡ length out₀)
@@ -50,7 +48,7 @@ part-write-all-start : tie.Need-part-write-all-start Inv-loop μ-loop
 part-write-all-start c = search needs
 
 part-write-all-end : tie.Need-part-write-all-end Inv-loop μ-loop
-part-write-all-end c = search needs
+part-write-all-end c = let e = c .before .before .before .print-mark .ensures .1 in omega (arith, mark-short (markIn (take (c .before .before .before .before .before .before .before .loop .i * 5 + 5 - c .before .before .before .before .before .before .before .loop .i * 5) (drop (c .before .before .before .before .before .before .before .loop .i * 5) (c .before .before .before .before .before .before .before .before .before .before .args .marks .now)))), c .before .before .before .before .before .before .before .before .before .before .pre .2)
 
 write-all-requires : tie.Need-write-all-requires Inv-loop μ-loop
 write-all-requires c κs = search needs

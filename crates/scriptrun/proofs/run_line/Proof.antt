@@ -2,10 +2,6 @@ use native.Mathlib.Omega.{arith}
 use borrow.Author.Needs.{needs}
 use Rattle.scriptrun.proofs.run_line.Statement.{statement}
 use Rattle.scriptrun.proofs.run_line.Tie as tie
-use Rattle.scriptrun.proofs.run_line.Reads as reads
-use Rattle.scriptrun.proofs.run_line.Lts as lts
-use Rattle.scriptrun.proofs.make_room.Reads as make-room-reads
-use Rattle.step.proofs.step.Reads as step-reads
 
 make-room-requires : tie.Need-make-room-requires
 make-room-requires c κs = search needs

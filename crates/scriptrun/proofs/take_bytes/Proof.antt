@@ -6,9 +6,6 @@ use native.Mathlib.Omega.{arith}
 use borrow.Author.Needs.{needs}
 use Rattle.scriptrun.proofs.take_bytes.Statement.{statement}
 use Rattle.scriptrun.proofs.take_bytes.Tie as tie
-use Rattle.scriptrun.proofs.take_bytes.Reads as reads
-use Rattle.scriptrun.proofs.take_bytes.Lts as lts
-use Rattle.scriptrun.proofs.take_byte.Reads as take-byte-reads
 
 abbrev Inv-loop : tie.InvT-loop
 Inv-loop bytes line₀ text₀ marks₀ out₀ fed₀ i₀ line text marks out fed i = (i ≤ length bytes) × (length line ≡ length line₀) × (length text ≡ length text₀) × (length marks ≡ length marks₀) × (length out ≡ length out₀) × Ready (fed .script) text marks × (fed .pending ≤ length line) × (fed .gathered ≤ length out)
