@@ -8,6 +8,7 @@ ghost use Prim.Native.Nat.{suc, _-_, min, max};
 ghost use Rattle.edit.specs.Call.{numberOf};
 
 // A text's used length in its buffer, the cursor, and how many edits were accepted, modulo 2^64.
+#[repr(C)]
 pub struct View {
     pub used: usize,
     pub cursor: Position,

@@ -7,6 +7,7 @@ use text::Position;
 use text::Row;
 
 // Two ends, both covered: the one that stays put while a motion runs, and the one that it moves.
+#[repr(C)]
 pub struct Sel {
     pub anchor: Position,
     pub head: Position,

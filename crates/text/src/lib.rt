@@ -22,13 +22,16 @@ ghost use mathlib.Core.Path.{_≡_};
 ghost use Prim.Native.Nat.{min, max};
 ghost use Rattle.text.specs.Rows.{upto, earlier, later};
 
+#[repr(C)]
 pub struct Row(pub u32);
 
+#[repr(C)]
 pub struct Col(pub u32);
 
 // A place in a text, counted in characters from its start.
 pub struct CharOffset(pub usize);
 
+#[repr(C)]
 pub struct Position {
     pub row: Row,
     pub col: Col,
