@@ -1,0 +1,44 @@
+use borrow.Author.Needs.{needs}
+use Rattle.plain.proofs.answers.told_fit.Statement.{statement}
+use Rattle.plain.proofs.answers.told_fit.Tie as tie
+
+enum-told : tie.Need-enum-told
+enum-told c = search needs
+
+not-found-requires : tie.Need-not-found-requires
+not-found-requires c κs = search needs
+
+enum-known-fit : tie.Need-enum-known-fit
+enum-known-fit c = search needs
+
+found-at-requires : tie.Need-found-at-requires
+found-at-requires c κs = search needs
+
+enum-told-2 : tie.Need-enum-told-2
+enum-told-2 c = search needs
+
+not-found-requires-2 : tie.Need-not-found-requires-2
+not-found-requires-2 c κs = search needs
+
+returns : tie.Need-returns
+returns c = rw (c .before .enum-told .given .1) (c .not-found .ensures)
+
+returns-2 : tie.Need-returns-2
+returns-2 c = rw (c .before .before .fit .given .1) (c .found-at .ensures)
+
+returns-3 : tie.Need-returns-3
+returns-3 c = rw (c .before .enum-told2 .given .1) (c .not-found2 .ensures)
+
+pub told-fit-spec : {M : Type 1} → statement M
+told-fit-spec =
+    tie.close
+    (tie.spec
+    enum-told
+    not-found-requires
+    enum-known-fit
+    found-at-requires
+    enum-told-2
+    not-found-requires-2
+    returns
+    returns-2
+    returns-3)

@@ -1,0 +1,204 @@
+// The core's functions for C, as include/winchbarn.h declares them.
+mod answers;
+
+use answers::told_merged;
+use answers::told_ran;
+use answers::told_sel_shifted;
+use answers::told_shifted;
+use answers::told_undoable;
+use answers::told_written;
+use apply::apply_edit;
+use edit::Refusal;
+use edit::View;
+use framed::apply_frame;
+use merge::merge_overlapping;
+use plain::Change;
+use plain::Count;
+use plain::Cover;
+use plain::Found;
+use plain::MeantEdit;
+use plain::MeantSelection;
+use plain::Numbers;
+use plain::Said;
+use plain::SelFound;
+use plain::meant_edit;
+use plain::meant_selection;
+use plain::no_cover;
+use plain::no_sel;
+use plain::not_changed;
+use plain::not_counted;
+use plain::not_found;
+use plain::told_answer;
+use plain::told_clamped;
+use plain::told_decoded;
+use plain::told_encoded;
+use plain::told_fit;
+use plain::told_span;
+use script::run_script;
+use select::Sel;
+use shift::shift_position;
+use shift::shift_sel;
+use text::Position;
+use text::Row;
+use text::box_fit;
+use text::clamp_position;
+use utf8::decode;
+use utf8::encode;
+use view::undoable;
+use writer::write_edit;
+
+#[no_mangle]
+pub extern "C" fn winchbarn_run_script(input: &[u8], out: &mut [u8]) -> Count {
+    told_ran(run_script(input, out))
+}
+
+#[no_mangle]
+pub extern "C" fn winchbarn_apply_edit(
+    text: &mut [u32],
+    view: View,
+    edit: Numbers,
+    payload: &[u32],
+    first: &[u32],
+    second: &[u32],
+    outpayload: &mut [u32],
+    outfirst: &mut [u32],
+    outsecond: &mut [u32],
+) -> Change {
+    let meant = meant_edit(edit);
+    match meant {
+        MeantEdit::Edit(e) => {
+            let answer = apply_edit(
+                text,
+                view,
+                e,
+                payload,
+                first,
+                second,
+                outpayload,
+                outfirst,
+                outsecond,
+            );
+            told_answer(view, answer)
+        }
+        MeantEdit::NoKind => not_changed(view, Refusal::BadFrame),
+    }
+}
+
+#[no_mangle]
+pub extern "C" fn winchbarn_apply_frame(
+    text: &mut [u32],
+    view: View,
+    line: &[u8],
+    outpayload: &mut [u32],
+    outfirst: &mut [u32],
+    outsecond: &mut [u32],
+) -> Change {
+    let answer = apply_frame(text, view, line, outpayload, outfirst, outsecond);
+    told_answer(view, answer)
+}
+
+#[no_mangle]
+pub extern "C" fn winchbarn_write_edit(
+    edit: Numbers,
+    payload: &[u32],
+    first: &[u32],
+    second: &[u32],
+    out: &mut [u8],
+) -> Count {
+    let meant = meant_edit(edit);
+    match meant {
+        MeantEdit::Edit(e) => told_written(write_edit(e, payload, first, second, out)),
+        MeantEdit::NoKind => not_counted(Refusal::BadFrame),
+    }
+}
+
+#[no_mangle]
+pub extern "C" fn winchbarn_undoable(
+    text: &[u32],
+    view: View,
+    edit: Numbers,
+    payload: &[u32],
+    first: &[u32],
+    second: &[u32],
+) -> Said {
+    let meant = meant_edit(edit);
+    match meant {
+        MeantEdit::Edit(e) => told_undoable(undoable(text, view, e, payload, first, second)),
+        MeantEdit::NoKind => Said {
+            refusal: 10,
+            yes: false,
+        },
+    }
+}
+
+#[no_mangle]
+pub extern "C" fn winchbarn_clamp_position(text: &[u32], used: usize, pos: Position) -> Found {
+    told_clamped(clamp_position(text, used, pos))
+}
+
+#[no_mangle]
+pub extern "C" fn winchbarn_box_fit(text: &[u32], used: usize, cells: u32) -> Found {
+    told_fit(box_fit(text, used, cells))
+}
+
+#[no_mangle]
+pub extern "C" fn winchbarn_shift_position(
+    text: &[u32],
+    view: View,
+    edit: Numbers,
+    payload: &[u32],
+    first: &[u32],
+    second: &[u32],
+    pos: Position,
+) -> Found {
+    let meant = meant_edit(edit);
+    match meant {
+        MeantEdit::Edit(e) => {
+            told_shifted(shift_position(text, view, e, payload, first, second, pos))
+        }
+        MeantEdit::NoKind => not_found(10),
+    }
+}
+
+#[no_mangle]
+pub extern "C" fn winchbarn_shift_sel(
+    text: &[u32],
+    view: View,
+    edit: Numbers,
+    payload: &[u32],
+    first: &[u32],
+    second: &[u32],
+    sel: Sel,
+) -> SelFound {
+    let meant = meant_edit(edit);
+    match meant {
+        MeantEdit::Edit(e) => {
+            told_sel_shifted(shift_sel(text, view, e, payload, first, second, sel))
+        }
+        MeantEdit::NoKind => no_sel(10),
+    }
+}
+
+#[no_mangle]
+pub extern "C" fn winchbarn_merge_overlapping(sels: &[u32], out: &mut [u32]) -> Count {
+    told_merged(merge_overlapping(sels, out))
+}
+
+#[no_mangle]
+pub extern "C" fn winchbarn_row_span(kind: u32, sel: Sel, row: u32) -> Cover {
+    let meant = meant_selection(kind, sel);
+    match meant {
+        MeantSelection::Selection(s) => told_span(s.row_span(Row(row))),
+        MeantSelection::NoKind => no_cover(10),
+    }
+}
+
+#[no_mangle]
+pub extern "C" fn winchbarn_decode(bytes: &[u8], out: &mut [u32]) -> Count {
+    told_decoded(decode(bytes, out))
+}
+
+#[no_mangle]
+pub extern "C" fn winchbarn_encode(scalars: &[u32], out: &mut [u8]) -> Count {
+    told_encoded(encode(scalars, out))
+}
