@@ -16,29 +16,45 @@ use shift::SelShifted;
 use shift::Shifted;
 use view::CanUndo;
 use writer::Written;
+ghost use mathlib.Core.Path.{_≡_};
+ghost use Rattle.merge.specs.Call.{paperMerged};
+ghost use Rattle.shift.specs.Answers.{paperShifted, paperSelShifted};
+ghost use Rattle.view.specs.Answers.{paperUndoable};
+ghost use Rattle.writer.specs.Calls.{paperWritten};
+ghost use Rattle.script.specs.Calls.{paperRan};
+ghost use Rattle.plain.specs.Told.{toldCount, toldYes};
+ghost use Rattle.winchbarn.specs.Calls.{toldShifted, toldSelShifted};
 
-pub fn told_ran(ran: Ran) -> Count {
+pub fn told_ran(ran: Ran) -> Count
+    ensures { λ r. ⌜ r ≡ toldCount (paperRan ran) ⌝ }
+{
     match ran {
         Ran::Bytes(n) => counted(n),
         Ran::NoRoom => not_counted(Refusal::NoRoom),
     }
 }
 
-pub fn told_written(written: Written) -> Count {
+pub fn told_written(written: Written) -> Count
+    ensures { λ r. ⌜ r ≡ toldCount (paperWritten written) ⌝ }
+{
     match written {
         Written::Digits(n) => counted(n),
         Written::Refused(why) => not_counted(why),
     }
 }
 
-pub fn told_merged(merged: Merged) -> Count {
+pub fn told_merged(merged: Merged) -> Count
+    ensures { λ r. ⌜ r ≡ toldCount (paperMerged merged) ⌝ }
+{
     match merged {
         Merged::Count(n) => counted(n),
         Merged::Refused(why) => not_counted(why),
     }
 }
 
-pub fn told_shifted(shifted: Shifted) -> Found {
+pub fn told_shifted(shifted: Shifted) -> Found
+    ensures { λ r. ⌜ r ≡ toldShifted (paperShifted shifted) ⌝ }
+{
     match shifted {
         Shifted::At(at) => found_at(at),
         Shifted::Dropped => not_found(0),
@@ -46,7 +62,9 @@ pub fn told_shifted(shifted: Shifted) -> Found {
     }
 }
 
-pub fn told_sel_shifted(shifted: SelShifted) -> SelFound {
+pub fn told_sel_shifted(shifted: SelShifted) -> SelFound
+    ensures { λ r. ⌜ r ≡ toldSelShifted (paperSelShifted shifted) ⌝ }
+{
     match shifted {
         SelShifted::At(sel) => found_sel(sel),
         SelShifted::Dropped => no_sel(0),
@@ -54,7 +72,9 @@ pub fn told_sel_shifted(shifted: SelShifted) -> SelFound {
     }
 }
 
-pub fn told_undoable(can: CanUndo) -> Said {
+pub fn told_undoable(can: CanUndo) -> Said
+    ensures { λ r. ⌜ r ≡ toldYes (paperUndoable can) ⌝ }
+{
     match can {
         CanUndo::Yes => Said {
             refusal: 0,

@@ -46,9 +46,21 @@ use utf8::decode;
 use utf8::encode;
 use view::undoable;
 use writer::write_edit;
+ghost use mathlib.Core.Path.{_≡_};
+ghost use Rattle.utf8.specs.Reading.{reading};
+ghost use Rattle.utf8.specs.Calls.{decoded, encoded};
+ghost use Rattle.text.specs.Calls.{clampedIn, fitsIn};
+ghost use Rattle.edit.specs.Call.{lent};
+ghost use Rattle.merge.specs.Call.{mergedIn};
+ghost use Rattle.framed.specs.Calls.{lineApplied};
+ghost use Rattle.script.specs.Calls.{ranInto};
+ghost use Rattle.plain.specs.Told.{toldClamped, toldFit};
+ghost use Rattle.winchbarn.specs.Calls.{counted, changed, toldInto, toldMerge, toldCall, editCall, lineCall, undoableCall, shiftCall, selCall, spanCall};
 
 #[no_mangle]
-pub extern "C" fn winchbarn_run_script(input: &[u8], out: &mut [u8]) -> Count {
+pub extern "C" fn winchbarn_run_script(input: &[u8], out: &mut [u8]) -> Count
+    ensures { λ r. ⌜ counted r (now (out .exit)) ≡ toldInto (ranInto (now (input .entry)) (now (out .entry))) ⌝ }
+{
     told_ran(run_script(input, out))
 }
 
@@ -63,7 +75,9 @@ pub extern "C" fn winchbarn_apply_edit(
     outpayload: &mut [u32],
     outfirst: &mut [u32],
     outsecond: &mut [u32],
-) -> Change {
+) -> Change
+    ensures { λ r. ⌜ changed r (now (text .exit)) (now (outpayload .exit)) (now (outfirst .exit)) (now (outsecond .exit)) ≡ editCall view edit (lent (now (text .entry)) (now (payload .entry)) (now (first .entry)) (now (second .entry)) (now (outpayload .entry)) (now (outfirst .entry)) (now (outsecond .entry))) ⌝ }
+{
     let meant = meant_edit(edit);
     match meant {
         MeantEdit::Edit(e) => {
@@ -92,7 +106,9 @@ pub extern "C" fn winchbarn_apply_frame(
     outpayload: &mut [u32],
     outfirst: &mut [u32],
     outsecond: &mut [u32],
-) -> Change {
+) -> Change
+    ensures { λ r. ⌜ changed r (now (text .exit)) (now (outpayload .exit)) (now (outfirst .exit)) (now (outsecond .exit)) ≡ toldCall view (lineApplied view (now (line .entry)) (now (text .entry)) (now (outpayload .entry)) (now (outfirst .entry)) (now (outsecond .entry))) ⌝ }
+{
     let answer = apply_frame(text, view, line, outpayload, outfirst, outsecond);
     told_answer(view, answer)
 }
@@ -104,7 +120,9 @@ pub extern "C" fn winchbarn_write_edit(
     first: &[u32],
     second: &[u32],
     out: &mut [u8],
-) -> Count {
+) -> Count
+    ensures { λ r. ⌜ counted r (now (out .exit)) ≡ lineCall edit (now (payload .entry)) (now (first .entry)) (now (second .entry)) (now (out .entry)) ⌝ }
+{
     let meant = meant_edit(edit);
     match meant {
         MeantEdit::Edit(e) => told_written(write_edit(e, payload, first, second, out)),
@@ -120,7 +138,9 @@ pub extern "C" fn winchbarn_undoable(
     payload: &[u32],
     first: &[u32],
     second: &[u32],
-) -> Said {
+) -> Said
+    ensures { λ r. ⌜ r ≡ undoableCall view edit (now (text .entry)) (now (payload .entry)) (now (first .entry)) (now (second .entry)) ⌝ }
+{
     let meant = meant_edit(edit);
     match meant {
         MeantEdit::Edit(e) => told_undoable(undoable(text, view, e, payload, first, second)),
@@ -132,12 +152,16 @@ pub extern "C" fn winchbarn_undoable(
 }
 
 #[no_mangle]
-pub extern "C" fn winchbarn_clamp_position(text: &[u32], used: usize, pos: Position) -> Found {
+pub extern "C" fn winchbarn_clamp_position(text: &[u32], used: usize, pos: Position) -> Found
+    ensures { λ r. ⌜ r ≡ toldClamped (clampedIn (now (text .entry)) used pos) ⌝ }
+{
     told_clamped(clamp_position(text, used, pos))
 }
 
 #[no_mangle]
-pub extern "C" fn winchbarn_box_fit(text: &[u32], used: usize, cells: u32) -> Found {
+pub extern "C" fn winchbarn_box_fit(text: &[u32], used: usize, cells: u32) -> Found
+    ensures { λ r. ⌜ r ≡ toldFit (fitsIn (now (text .entry)) used cells) ⌝ }
+{
     told_fit(box_fit(text, used, cells))
 }
 
@@ -150,7 +174,9 @@ pub extern "C" fn winchbarn_shift_position(
     first: &[u32],
     second: &[u32],
     pos: Position,
-) -> Found {
+) -> Found
+    ensures { λ r. ⌜ r ≡ shiftCall (now (text .entry)) view edit (now (payload .entry)) (now (first .entry)) (now (second .entry)) pos ⌝ }
+{
     let meant = meant_edit(edit);
     match meant {
         MeantEdit::Edit(e) => {
@@ -169,7 +195,9 @@ pub extern "C" fn winchbarn_shift_sel(
     first: &[u32],
     second: &[u32],
     sel: Sel,
-) -> SelFound {
+) -> SelFound
+    ensures { λ r. ⌜ r ≡ selCall (now (text .entry)) view edit (now (payload .entry)) (now (first .entry)) (now (second .entry)) sel ⌝ }
+{
     let meant = meant_edit(edit);
     match meant {
         MeantEdit::Edit(e) => {
@@ -180,12 +208,16 @@ pub extern "C" fn winchbarn_shift_sel(
 }
 
 #[no_mangle]
-pub extern "C" fn winchbarn_merge_overlapping(sels: &[u32], out: &mut [u32]) -> Count {
+pub extern "C" fn winchbarn_merge_overlapping(sels: &[u32], out: &mut [u32]) -> Count
+    ensures { λ r. ⌜ counted r (now (out .exit)) ≡ toldMerge (mergedIn (now (sels .entry)) (now (out .entry))) ⌝ }
+{
     told_merged(merge_overlapping(sels, out))
 }
 
 #[no_mangle]
-pub extern "C" fn winchbarn_row_span(kind: u32, sel: Sel, row: u32) -> Cover {
+pub extern "C" fn winchbarn_row_span(kind: u32, sel: Sel, row: u32) -> Cover
+    ensures { λ r. ⌜ r ≡ spanCall kind sel row ⌝ }
+{
     let meant = meant_selection(kind, sel);
     match meant {
         MeantSelection::Selection(s) => told_span(s.row_span(Row(row))),
@@ -194,11 +226,15 @@ pub extern "C" fn winchbarn_row_span(kind: u32, sel: Sel, row: u32) -> Cover {
 }
 
 #[no_mangle]
-pub extern "C" fn winchbarn_decode(bytes: &[u8], out: &mut [u32]) -> Count {
+pub extern "C" fn winchbarn_decode(bytes: &[u8], out: &mut [u32]) -> Count
+    ensures { λ r. ⌜ counted r (now (out .exit)) ≡ toldInto (decoded (reading (now (bytes .entry))) (now (out .entry))) ⌝ }
+{
     told_decoded(decode(bytes, out))
 }
 
 #[no_mangle]
-pub extern "C" fn winchbarn_encode(scalars: &[u32], out: &mut [u8]) -> Count {
+pub extern "C" fn winchbarn_encode(scalars: &[u32], out: &mut [u8]) -> Count
+    ensures { λ r. ⌜ counted r (now (out .exit)) ≡ toldInto (encoded (now (scalars .entry)) (now (out .entry))) ⌝ }
+{
     told_encoded(encode(scalars, out))
 }

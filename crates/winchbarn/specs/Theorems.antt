@@ -1,0 +1,13 @@
+-- What is proved beside that the code meets its promises. The proofs stand in proofs/Theorems.antt.
+use mathlib.Core.List.{List}
+use Prim.Native.Nat.{ℕ}
+use Rattle.promise.specs.Settled.{Settles}
+use Rattle.plain.specs.declared.Change.{Change}
+use Rattle.plain.specs.declared.Count.{Count}
+use Rattle.winchbarn.specs.Calls.{counted, changed}
+
+-- The promises of the functions that write settle the answer and every slice that was lent to be written. Those of the others are
+-- equations for the answer itself.
+pub record Settled : Type 0 where
+  pub counts : Settles {A = Count × List ℕ} (λ o. counted (o .0) (o .1))
+  pub changes : Settles {A = Change × List ℕ × List ℕ × List ℕ × List ℕ} (λ o. changed (o .0) (o .1) (o .2) (o .3) (o .4))
