@@ -13,7 +13,8 @@ use Rattle.merge.specs.Sorting.{insert, sorted}
 use Rattle.merge.specs.Merging.{collapsed, collapse}
 use Rattle.merge.specs.Call.{leaves as mergeLeaves, mergedIn}
 use Rattle.joins.specs.Turns.{gapLen}
-use Rattle.shift.specs.After.{afterInsert, afterDeleteChar, startCols, afterJoin, shifted}
+use Rattle.after.specs.After.{afterInsert, afterDeleteChar, startCols, afterJoin}
+use Rattle.shift.specs.Kinds.{shifted}
 use Rattle.shift.specs.Call.{orderedRange, orderedOk, positionShifted, selShifted}
 use Rattle.hex.specs.Digits.{isDigit, valueOf, digitOf, hexed, unhexed, paired}
 use Rattle.frame.specs.Numbers.{numberIn}

@@ -7,7 +7,7 @@ ghost use Prim.Native.Nat.{_≤_};
 ghost use lib.Dec.{T};
 ghost use Rattle.text.specs.Text.{all};
 ghost use Rattle.edit.specs.Refusals.{small};
-ghost use Rattle.shift.specs.After.{afterDeleteBlock, afterInsertBlock, afterDeleteBlockChunks};
+ghost use Rattle.after.specs.After.{afterDeleteBlock, afterInsertBlock, afterDeleteBlockChunks};
 
 // Where `pos` lands after the rectangle between two corners is deleted.
 pub fn after_delete_block(pos: Position, start: Position, end: Position) -> Position

@@ -1,7 +1,7 @@
 use borrow.Author.Needs.{needs}
-use Rattle.shift.proofs.Deletes.{lines-above, lines-inside, lines-below}
-use Rattle.shift.proofs.chars.after_delete_lines.Statement.{statement}
-use Rattle.shift.proofs.chars.after_delete_lines.Tie as tie
+use Rattle.after.proofs.Deletes.{lines-above, lines-inside, lines-below}
+use Rattle.after.proofs.chars.after_delete_lines.Statement.{statement}
+use Rattle.after.proofs.chars.after_delete_lines.Tie as tie
 
 returns : tie.Need-returns
 returns c = let a = c .before .before .before .args in lines-above (a .pos) (a .start .0) (a .end .0) (c .if1 .taken)

@@ -1,10 +1,10 @@
-use Rattle.shift.proofs.Rectangles.{not-above, cut-outside, past-col, cut-below, cut-right, cut-inside}
+use Rattle.after.proofs.Rectangles.{not-above, cut-outside, past-col, cut-below, cut-right, cut-inside}
 use native.Mathlib.Omega.{arith}
 use borrow.Author.Needs.{needs}
-use Rattle.shift.proofs.boxes.after_delete_block_chunks.Statement.{statement}
-use Rattle.shift.proofs.boxes.after_delete_block_chunks.Tie as tie
-use Rattle.shift.proofs.boxes.after_delete_block_chunks.Reads as reads
-use Rattle.shift.proofs.boxes.after_delete_block_chunks.Lts as lts
+use Rattle.after.proofs.boxes.after_delete_block_chunks.Statement.{statement}
+use Rattle.after.proofs.boxes.after_delete_block_chunks.Tie as tie
+use Rattle.after.proofs.boxes.after_delete_block_chunks.Reads as reads
+use Rattle.after.proofs.boxes.after_delete_block_chunks.Lts as lts
 
 returns : tie.Need-returns
 returns c = let a = c .before .args in cut-outside (a .pos) (a .at) (a .widths .now) (c .if1 .taken)

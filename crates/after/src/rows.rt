@@ -11,7 +11,7 @@ ghost use Prim.Native.Nat.{suc, _+_, _-_, _≤_, _<_, min, max};
 ghost use lib.ListN.{length, drop, getD};
 ghost use Rattle.text.specs.Rows.{lines, lastRow, rowLen};
 ghost use Rattle.text.specs.Text.{isLF, textLimit};
-ghost use Rattle.shift.specs.After.{startCols, afterJoin};
+ghost use Rattle.after.specs.After.{startCols, afterJoin};
 
 // How many joins are made of a row with those below it.
 fn joins_made(last: Row, row: Row, count: u32) -> u32

@@ -1,11 +1,11 @@
-use Rattle.shift.proofs.Rectangles.{not-above, small-at, put-outside, put-below, put-moved}
+use Rattle.after.proofs.Rectangles.{not-above, small-at, put-outside, put-below, put-moved}
 use Prim.Native.Nat.{_-_}
 use native.Mathlib.Omega.{arith}
 use borrow.Author.Needs.{needs}
-use Rattle.shift.proofs.boxes.after_insert_block.Statement.{statement}
-use Rattle.shift.proofs.boxes.after_insert_block.Tie as tie
-use Rattle.shift.proofs.boxes.after_insert_block.Reads as reads
-use Rattle.shift.proofs.boxes.after_insert_block.Lts as lts
+use Rattle.after.proofs.boxes.after_insert_block.Statement.{statement}
+use Rattle.after.proofs.boxes.after_insert_block.Tie as tie
+use Rattle.after.proofs.boxes.after_insert_block.Reads as reads
+use Rattle.after.proofs.boxes.after_insert_block.Lts as lts
 
 returns : tie.Need-returns
 returns c = let a = c .before .args in put-outside (a .pos) (a .at) (a .lens .now) (c .if1 .taken)

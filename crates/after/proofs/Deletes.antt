@@ -5,7 +5,7 @@ use Prim.Native.Nat.{ℕ, _+_, _-_, _≤_, _<_}
 use borrow.Author.Tests.{eq-eqb, ne-eqb, le-leb, lt-leb, lt-ltb, le-ltb}
 use Rattle.text.specs.declared.Position.{Position}
 use Rattle.text.specs.Rows.{at, upto}
-use Rattle.shift.specs.After.{afterDeleteChar, afterDeleteLines}
+use Rattle.after.specs.After.{afterDeleteChar, afterDeleteLines}
 
 module _ (p s e : Position) where
   pub delete-before : upto p s ≡ true → p ≡ afterDeleteChar p s e

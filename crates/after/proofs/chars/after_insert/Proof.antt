@@ -4,13 +4,13 @@ use Rattle.text.specs.Text.{isLF}
 use Rattle.text.proofs.Laws.{last-le}
 use Rattle.text.proofs.Spots.{row-within}
 use Rattle.text.proofs.Order.{col-le}
-use Rattle.shift.proofs.Inserts.{insert-before, insert-above, insert-in-row, insert-rows}
+use Rattle.after.proofs.Inserts.{insert-before, insert-above, insert-in-row, insert-rows}
 use native.Mathlib.Omega.{arith}
 use borrow.Author.Needs.{needs}
-use Rattle.shift.proofs.chars.after_insert.Statement.{statement}
-use Rattle.shift.proofs.chars.after_insert.Tie as tie
-use Rattle.shift.proofs.chars.after_insert.Reads as reads
-use Rattle.shift.proofs.chars.after_insert.Lts as lts
+use Rattle.after.proofs.chars.after_insert.Statement.{statement}
+use Rattle.after.proofs.chars.after_insert.Tie as tie
+use Rattle.after.proofs.chars.after_insert.Reads as reads
+use Rattle.after.proofs.chars.after_insert.Lts as lts
 use Rattle.text.proofs.Position.le.Reads as le-reads
 use Rattle.text.proofs.last_row.Reads as last-row-reads
 use Rattle.text.proofs.line_char_count.Reads as line-char-count-reads

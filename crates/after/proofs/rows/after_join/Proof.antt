@@ -1,14 +1,14 @@
 use mathlib.Core.Path.{ap, _∙_}
 use Prim.Native.Nat.{ℕ, _-_, min, max}
-use Rattle.shift.proofs.JoinCols.{join-above, join-below, join-onto}
+use Rattle.after.proofs.JoinCols.{join-above, join-below, join-onto}
 use native.Mathlib.Omega.{arith}
 use borrow.Author.Needs.{needs}
-use Rattle.shift.proofs.rows.after_join.Statement.{statement}
-use Rattle.shift.proofs.rows.after_join.Tie as tie
-use Rattle.shift.proofs.rows.after_join.Reads as reads
-use Rattle.shift.proofs.rows.after_join.Lts as lts
-use Rattle.shift.proofs.rows.joins_made.Reads as joins-made-reads
-use Rattle.shift.proofs.rows.start_col.Reads as start-col-reads
+use Rattle.after.proofs.rows.after_join.Statement.{statement}
+use Rattle.after.proofs.rows.after_join.Tie as tie
+use Rattle.after.proofs.rows.after_join.Reads as reads
+use Rattle.after.proofs.rows.after_join.Lts as lts
+use Rattle.after.proofs.rows.joins_made.Reads as joins-made-reads
+use Rattle.after.proofs.rows.start_col.Reads as start-col-reads
 use Rattle.text.proofs.last_row.Reads as last-row-reads
 
 returns : tie.Need-returns

@@ -1,7 +1,7 @@
 use borrow.Author.Needs.{needs}
-use Rattle.shift.proofs.Rectangles.{block-outside, block-right, block-inside}
-use Rattle.shift.proofs.boxes.after_delete_block.Statement.{statement}
-use Rattle.shift.proofs.boxes.after_delete_block.Tie as tie
+use Rattle.after.proofs.Rectangles.{block-outside, block-right, block-inside}
+use Rattle.after.proofs.boxes.after_delete_block.Statement.{statement}
+use Rattle.after.proofs.boxes.after_delete_block.Tie as tie
 
 min-requires : tie.Need-min-requires
 min-requires c κs = search needs

@@ -19,7 +19,7 @@ use Rattle.joins.specs.declared.JoinTurn.{JoinTurn}
 use Rattle.joins.specs.Turns.{gapLen, joinTurn}
 use Rattle.joins.proofs.JoinTurns.{belowOf, below-count, Starts}
 use Rattle.joins.proofs.JoinPlans.{Walked, walked-none, walked-within, walked-len, walked-more, starts-at}
-use Rattle.shift.specs.After.{startCols, afterJoin}
+use Rattle.after.specs.After.{startCols, afterJoin}
 
 -- ---- the list
 

@@ -8,12 +8,7 @@ use lib.ListN.{length, take, drop, getD}
 use Rattle.text.specs.declared.Position.{Position}
 use Rattle.text.specs.Rows.{Line, lines, at, upto, lastRow, rowLen}
 use Rattle.text.specs.Text.{isLF}
-use Rattle.edit.specs.declared.MotionKind.{MotionKind}
-use Rattle.edit.specs.declared.MotionKind.the-variants.{Char, Line as Lines, Block}
-use Rattle.edit.specs.declared.Edit.{Edit}
-use Rattle.edit.specs.declared.Edit.the-variants.{InsertChar, InsertStr, DeleteRange, JoinLines, SplitLines, Replace, InsertBlock, DeleteBlockChunks}
 use Rattle.joins.specs.Turns.{gapLen}
-use Rattle.shift.specs.Answers.{Followed, to, dropped}
 
 -- "Where `p` lands after `text` is inserted at `at`.": x at q. The rows that it adds, and "Chars on the final line of the
 -- inserted text"
@@ -79,21 +74,3 @@ afterDeleteBlockChunks p q widths =
     let width = getD widths (p .row .0 - q .row .0) 0 in
     cond (ltb (p .row .0) (q .row .0) || leb (q .row .0 + length widths) (p .row .0) || leb (p .col .0) (q .col .0)) p
     (cond (leb (q .col .0 + width) (p .col .0)) (at (p .row .0) (p .col .0 - width)) (at (p .row .0) (q .col .0)))
-
--- by the kind of motion
-unfoldable pub afterDelete : Position → Position → Position → MotionKind → Position
-afterDelete p s e Char = afterDeleteChar p s e
-afterDelete p s e Lines = afterDeleteLines p (s .row .0) (e .row .0)
-afterDelete p s e Block = afterDeleteBlock p s e
-
--- the text before the edit, the edit with its payload and its first list, and the position
-unfoldable pub shifted : List ℕ → Edit → List ℕ → List ℕ → Position → Followed Position
-shifted t (InsertChar q) x f p = to (afterInsert p q x)
-shifted t (InsertStr q) x f p = to (afterInsert p q x)
-shifted t (DeleteRange s e k) x f p = to (afterDelete p s e k)
-shifted t (JoinLines r n b) x f p = to (afterJoin p (r .0) n b t)
-shifted t (SplitLines r) x f p = dropped
--- "Delete then insert at the (now collapsed) start."
-shifted t (Replace s e) x f p = to (afterInsert (afterDeleteChar p s e) s x)
-shifted t (InsertBlock q) x f p = to (afterInsertBlock p q f)
-shifted t (DeleteBlockChunks q) x f p = to (afterDeleteBlockChunks p q f)

@@ -8,7 +8,7 @@ use lib.ListN.{length}
 use Rattle.text.specs.declared.Position.{Position}
 use Rattle.text.specs.Rows.{at, upto, lastRow, rowLen}
 use Rattle.text.specs.Text.{isLF}
-use Rattle.shift.specs.After.{afterInsert}
+use Rattle.after.specs.After.{afterInsert}
 
 module _ (p q : Position) (x : List ℕ) where
   pub insert-before : upto q p ≡ false → p ≡ afterInsert p q x

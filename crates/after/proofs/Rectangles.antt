@@ -14,7 +14,7 @@ use Rattle.text.specs.Rows.{at}
 use Rattle.text.specs.Text.{all}
 use Rattle.text.proofs.Alls.{all-drop}
 use Rattle.edit.specs.Refusals.{small}
-use Rattle.shift.specs.After.{afterDeleteBlock, afterInsertBlock, afterDeleteBlockChunks}
+use Rattle.after.specs.After.{afterDeleteBlock, afterInsertBlock, afterDeleteBlockChunks}
 
 -- ---- a rectangle deleted
 

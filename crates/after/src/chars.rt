@@ -10,7 +10,7 @@ ghost use Prim.Native.Nat.{_≤_};
 ghost use lib.ListN.{length};
 ghost use Rattle.text.specs.Rows.{upto};
 ghost use Rattle.text.specs.Text.{textLimit};
-ghost use Rattle.shift.specs.After.{afterInsert, afterDeleteChar, afterDeleteLines};
+ghost use Rattle.after.specs.After.{afterInsert, afterDeleteChar, afterDeleteLines};
 
 // Where `pos` lands after the text is inserted at `at`. A position at `at` moves: the text lands before it.
 pub fn after_insert(pos: Position, at: Position, text: &[u32]) -> Position

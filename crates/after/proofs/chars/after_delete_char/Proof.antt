@@ -2,12 +2,12 @@ use native.Mathlib.Omega.{arith}
 use Rattle.text.proofs.Order.{row-le, col-le}
 use mathlib.Core.Path.{sym, _∙_}
 use borrow.Author.Tests.{not-true, not-false}
-use Rattle.shift.proofs.Deletes.{delete-before, delete-inside, delete-in-row, delete-below}
+use Rattle.after.proofs.Deletes.{delete-before, delete-inside, delete-in-row, delete-below}
 use borrow.Author.Needs.{needs}
-use Rattle.shift.proofs.chars.after_delete_char.Statement.{statement}
-use Rattle.shift.proofs.chars.after_delete_char.Tie as tie
-use Rattle.shift.proofs.chars.after_delete_char.Reads as reads
-use Rattle.shift.proofs.chars.after_delete_char.Lts as lts
+use Rattle.after.proofs.chars.after_delete_char.Statement.{statement}
+use Rattle.after.proofs.chars.after_delete_char.Tie as tie
+use Rattle.after.proofs.chars.after_delete_char.Reads as reads
+use Rattle.after.proofs.chars.after_delete_char.Lts as lts
 use Rattle.text.proofs.Position.le.Reads as le-reads
 
 le-requires : tie.Need-le-requires

@@ -4,9 +4,9 @@ use borrow.Author.Needs.{needs}
 use lib.ListN.{length}
 use Rattle.text.proofs.Walks.{span-within}
 use Rattle.joins.proofs.JoinTurns.{turn-small, Starts}
-use Rattle.shift.proofs.JoinCols.{Walks, starts-walk, walks-none, walks-inside, walks-more, walks-all}
-use Rattle.shift.proofs.rows.start_col.Statement.{statement}
-use Rattle.shift.proofs.rows.start_col.Tie as tie
+use Rattle.after.proofs.JoinCols.{Walks, starts-walk, walks-none, walks-inside, walks-more, walks-all}
+use Rattle.after.proofs.rows.start_col.Statement.{statement}
+use Rattle.after.proofs.rows.start_col.Tie as tie
 
 abbrev Inv-loop : tie.InvT-loop
 Inv-loop text down spaced at₀ left₀ col₀ k₀ at left col k = (k ≤ down) × (left ≤ at) × (col ≤ at) × (at ≤ length text) × Walks text down spaced at₀ left₀ at left col k
