@@ -8,12 +8,13 @@ use Rattle.text.specs.Text.{admissible, all, textOk, renewed}
 use Rattle.edit.specs.Edits.{inserted, charsDeleted, lineFrom, lineTo, linesDeleted, replaced, gap, joinRow, joinCols, joinFlags, put, putAll, padsOf, pieces, cutAll, chunksOf, anyFlag, joined, unspace, splitFirst, splitRow, split, blockInserted, chunksDeleted, rangeDeleted, editedBy}
 use Rattle.edit.specs.Refusals.{sum, smallRange, smallOk, fewRows, fewOk, payloadOk, withinFirst, withinAll, withinOk, roomOk, recordOk, wide}
 use Rattle.edit.specs.Call.{firstOf, resultOf, leaves, applied, rangeUndoable, isUndoable, undoable}
-use Rattle.merge.specs.Flat.{flat, sels}
-use Rattle.merge.specs.Sorting.{insert, sorted}
+use Rattle.sorting.specs.Flat.{flat, sels}
+use Rattle.sorting.specs.Sorting.{insert, sorted}
 use Rattle.merge.specs.Merging.{collapsed, collapse}
 use Rattle.merge.specs.Call.{leaves as mergeLeaves, mergedIn}
 use Rattle.joins.specs.Turns.{gapLen}
-use Rattle.shift.specs.After.{afterInsert, afterDeleteChar, startCols, afterJoin, shifted}
+use Rattle.after.specs.After.{afterInsert, afterDeleteChar, startCols, afterJoin}
+use Rattle.shift.specs.Kinds.{shifted}
 use Rattle.shift.specs.Call.{orderedRange, orderedOk, positionShifted, selShifted}
 use Rattle.hex.specs.Digits.{isDigit, valueOf, digitOf, hexed, unhexed, paired}
 use Rattle.frame.specs.Numbers.{numberIn}

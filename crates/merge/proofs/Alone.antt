@@ -11,11 +11,13 @@ use Rattle.text.proofs.Order.{upto-total, past-later}
 use Rattle.select.specs.declared.Sel.{Sel}
 use Rattle.select.specs.Sels.{start, end, overlaps}
 use Rattle.select.proofs.Overlaps.{overlaps-swap, overlaps-after}
-use Rattle.merge.specs.Sorting.{insert, sorted}
-use Rattle.merge.specs.Merging.{byStart, mergeTwo, collapsed, collapse, merged}
-use Rattle.merge.specs.Theorems.{ascending, startsPast, shares, Among, Lone, Reordered, none, keep, swap, twice}
+use Rattle.sorting.specs.Sorting.{insert, sorted, byStart}
+use Rattle.sorting.specs.Theorems.{ascending, Reordered, none, keep, swap, twice}
+use Rattle.sorting.proofs.Sorted.{insert-none, insert-first, insert-next, reordered-same, sorted-reordered, ascending-sorted}
+use Rattle.merge.specs.Merging.{mergeTwo, collapsed, collapse, merged}
+use Rattle.merge.specs.Theorems.{startsPast, shares, Among, Lone}
 use Rattle.merge.proofs.Pairs.{two-forward, end-two, apart-two}
-use Rattle.merge.proofs.Sorted.{insert-none, insert-first, insert-next, reordered-same, sorted-reordered, reordered-shares, ascending-sorted}
+use Rattle.merge.proofs.Reorders.{reordered-shares}
 use Rattle.merge.proofs.Collapsed.{collapsed-over, collapsed-past, ascending-tail, ascending-two, all-past}
 use Rattle.merge.proofs.Ties.{merged-reordered}
 

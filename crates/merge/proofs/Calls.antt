@@ -10,13 +10,13 @@ use Rattle.promise.specs.Paper.{done, refused}
 use Rattle.promise.specs.Slices.{over}
 use Rattle.text.proofs.Texts.{front}
 use Rattle.edit.specs.Call.{firstOf}
-use Rattle.merge.specs.Flat.{flat, sels}
-use Rattle.merge.specs.Sorting.{sorted}
-use Rattle.merge.specs.Merging.{byStart, collapse, merged}
+use Rattle.sorting.specs.Flat.{flat, sels}
+use Rattle.sorting.specs.Sorting.{sorted, byStart}
+use Rattle.sorting.proofs.Sorted.{length-sorted}
+use Rattle.sorting.proofs.Flats.{fours, length-flat, sels-flat, length-sels}
+use Rattle.sorting.proofs.Weaves.{front-back}
+use Rattle.merge.specs.Merging.{collapse, merged}
 use Rattle.merge.specs.Call.{Outcome, outcome, leaves, mergedIn}
-use Rattle.merge.proofs.Flats.{fours, length-flat, sels-flat, length-sels}
-use Rattle.merge.proofs.Sorted.{length-sorted}
-use Rattle.merge.proofs.Weaves.{front-back}
 
 module _ (input out : List ℕ) where
   pub too-many : 4_096 < length input → outcome (refused 3 0) out ≡ mergedIn input out

@@ -11,8 +11,9 @@ use Rattle.text.proofs.Order.{past-beyond}
 use Rattle.select.specs.declared.Sel.{Sel}
 use Rattle.select.specs.Sels.{start, end, covers, overlaps}
 use Rattle.select.proofs.Overlaps.{overlaps-after}
+use Rattle.sorting.specs.Theorems.{startsFrom, ascending}
 use Rattle.merge.specs.Merging.{mergeTwo, collapsed, collapse}
-use Rattle.merge.specs.Theorems.{startsFrom, ascending, startsPast, separated, covered}
+use Rattle.merge.specs.Theorems.{startsPast, separated, covered}
 use Rattle.merge.proofs.Pairs.{start-after, covers-two}
 
 from-past : (p q : Position) (l : List Sel) → upto q p ≡ false → startsFrom q l ≡ true → startsPast p l ≡ true

@@ -1,8 +1,8 @@
 -- The examples of merging, computed.
 use mathlib.Core.Path.{refl}
 use Rattle.edit.specs.Call.{firstOf}
-use Rattle.merge.specs.Flat.{flat, sels}
-use Rattle.merge.specs.Sorting.{insert, sorted}
+use Rattle.sorting.specs.Flat.{flat, sels}
+use Rattle.sorting.specs.Sorting.{insert, sorted}
 use Rattle.merge.specs.Merging.{collapsed, collapse}
 use Rattle.merge.specs.Call.{leaves, mergedIn}
 use Rattle.merge.specs.Examples.{Examples}

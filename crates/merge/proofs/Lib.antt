@@ -1,11 +1,8 @@
 pub mod Pairs
-pub mod Sorted
+pub mod Reorders
 pub mod Collapsed
 pub mod Ties
 pub mod Alone
-pub mod Flats
-pub mod Halves
-pub mod Weaves
 pub mod Turns
 pub mod Calls
 pub mod Theorems

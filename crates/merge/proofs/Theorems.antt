@@ -5,22 +5,17 @@ use Rattle.promise.specs.Paper.{Paper, done, refused}
 use Rattle.promise.proofs.Settled.{settled}
 use Rattle.edit.specs.declared.Refusal.{Refusal}
 use Rattle.edit.proofs.Theorems.{refusalBack, refusal-back}
+use Rattle.sorting.specs.Sorting.{sorted, byStart}
+use Rattle.sorting.proofs.Sorted.{ascending-sorted, sorted-reordered}
 use Rattle.merge.specs.declared.Merged.{Merged}
 use Rattle.merge.specs.declared.Merged.the-variants as mergedAs
-use Rattle.merge.specs.Sorting.{sorted}
-use Rattle.merge.specs.Merging.{byStart, collapse, merged}
+use Rattle.merge.specs.Merging.{collapse, merged}
 use Rattle.merge.specs.Call.{paperMerged, Outcome}
-use Rattle.merge.specs.Theorems.{Ascends, Stable, Separates, CoversSame, LoneKept, MergedForward, TwiceIsOnce, OrderFree, Left, MergeSettled}
-use Rattle.merge.proofs.Sorted.{ascending-sorted, tied-sorted, sorted-separated, sorted-reordered, reordered-covered}
+use Rattle.merge.specs.Theorems.{Separates, CoversSame, LoneKept, MergedForward, TwiceIsOnce, OrderFree, Left, MergeSettled}
+use Rattle.merge.proofs.Reorders.{sorted-separated, reordered-covered}
 use Rattle.merge.proofs.Collapsed.{separated-collapse, covered-collapse, collapse-separated}
 use Rattle.merge.proofs.Ties.{merged-reordered}
 use Rattle.merge.proofs.Alone.{merged-keeps, merged-alone}
-
-pub ascends : Ascends
-ascends = ascending-sorted
-
-pub stable : Stable
-stable = tied-sorted
 
 pub separates : Separates
 separates l = separated-collapse (sorted byStart l) (ascending-sorted l)

@@ -10,12 +10,12 @@ use Rattle.text.proofs.Order.{upto-trans, upto-total, upto-both, later-left}
 use Rattle.select.specs.declared.Sel.{Sel}
 use Rattle.select.specs.Sels.{start, end, overlaps}
 use Rattle.select.proofs.Overlaps.{start-end, overlaps-after}
-use Rattle.merge.specs.Sorting.{insert, sorted}
-use Rattle.merge.specs.Merging.{byStart, mergeTwo, collapsed, collapse, merged}
-use Rattle.merge.specs.Theorems.{startsFrom, ascending, Reordered}
-use Rattle.merge.specs.Theorems as order
+use Rattle.sorting.specs.Sorting.{insert, sorted, byStart}
+use Rattle.sorting.specs.Theorems.{startsFrom, ascending, Reordered}
+use Rattle.sorting.specs.Theorems as order
+use Rattle.sorting.proofs.Sorted.{insert-none, insert-first, insert-next, reordered-from, ascending-sorted}
+use Rattle.merge.specs.Merging.{mergeTwo, collapsed, collapse, merged}
 use Rattle.merge.proofs.Pairs.{start-after, end-two, two-swap, two-past}
-use Rattle.merge.proofs.Sorted.{insert-none, insert-first, insert-next, reordered-from, ascending-sorted}
 use Rattle.merge.proofs.Collapsed.{collapsed-over, collapsed-past, ascending-next, ascending-tail, ascending-two}
 
 data Tied : List Sel → List Sel → Type 0 where

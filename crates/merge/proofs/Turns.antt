@@ -10,11 +10,11 @@ use lib.Seq.{drop-cons}
 use Rattle.promise.specs.Slices.{over}
 use Rattle.select.specs.declared.Sel.{Sel}
 use Rattle.select.specs.Sels.{overlaps}
-use Rattle.merge.specs.Flat.{flat, sels}
-use Rattle.merge.specs.Weaving.{selAt, putAt}
+use Rattle.sorting.specs.Flat.{flat, sels}
+use Rattle.sorting.specs.Weaving.{selAt, putAt}
+use Rattle.sorting.proofs.Flats.{none, Fours, stop, four, fours, length-flat, length-sels, at-sels, Written, put-next, all-out}
 use Rattle.merge.specs.Merging.{mergeTwo, collapsed, collapse}
 use Rattle.merge.proofs.Collapsed.{collapsed-over, collapsed-past}
-use Rattle.merge.proofs.Flats.{none, Fours, stop, four, fours, length-flat, length-sels, at-sels, Written, put-next, all-out}
 
 -- after i of the selections in s, with `last` still open
 pub record Turning (s out₀ out : List ℕ) (last : Sel) (count i : ℕ) : Type 0 where

@@ -12,7 +12,7 @@ use Rattle.edit.specs.Call.{numberOf, offsetOf, firstOf}
 use Rattle.select.specs.declared.Sel.{Sel}
 use Rattle.merge.specs.declared.Merged.{Merged}
 use Rattle.merge.specs.declared.Merged.the-variants as mergedAs
-use Rattle.merge.specs.Flat.{flat, sels}
+use Rattle.sorting.specs.Flat.{flat, sels}
 use Rattle.merge.specs.Merging.{merged}
 
 abbrev pub paperMerged : Merged → Paper ℕ

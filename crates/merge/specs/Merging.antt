@@ -1,14 +1,10 @@
 -- What merging makes of some selections.
-use mathlib.Core.Bool.{Bool, cond}
+use mathlib.Core.Bool.{cond}
 use mathlib.Core.List.{List, [], _∷_}
-use Rattle.text.specs.Rows.{upto, earlier, later}
+use Rattle.text.specs.Rows.{earlier, later}
 use Rattle.select.specs.declared.Sel.{Sel}
 use Rattle.select.specs.Sels.{sel, start, end, overlaps}
-use Rattle.merge.specs.Sorting.{sorted}
-
--- "sorts stably by start"
-abbrev pub byStart : Sel → Sel → Bool
-byStart s t = upto (start s) (start t)
+use Rattle.sorting.specs.Sorting.{sorted, byStart}
 
 -- "a merged one runs forward"
 abbrev pub mergeTwo : Sel → Sel → Sel

@@ -1,13 +1,13 @@
 // Sorted selections merged where they share a position.
-use crate::flat::put_sel;
-use crate::flat::sel_at;
 use select::Sel;
+use sorting::put_sel;
+use sorting::sel_at;
 ghost use mathlib.Core.Path.{_≡_};
 ghost use Prim.Native.Nat.{_*_, _≤_};
 ghost use lib.ListN.{length};
 ghost use Rattle.promise.specs.Slices.{over};
 ghost use Rattle.promise.specs.Paper.{done};
-ghost use Rattle.merge.specs.Flat.{flat, sels};
+ghost use Rattle.sorting.specs.Flat.{flat, sels};
 ghost use Rattle.merge.specs.Merging.{mergeTwo, collapse};
 ghost use Rattle.merge.specs.Call.{outcome};
 

@@ -1,12 +1,10 @@
 // Selections in a flat slice, four numbers to each: merged where they share a position.
 mod collapsing;
-mod flat;
-mod sorting;
 
 use crate::collapsing::collapse;
-use crate::sorting::copy;
-use crate::sorting::sort;
 use edit::Refusal;
+use sorting::copy;
+use sorting::sort;
 ghost use mathlib.Core.Path.{_≡_};
 ghost use Rattle.merge.specs.Call.{paperMerged, outcome, mergedIn};
 

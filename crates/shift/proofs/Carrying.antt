@@ -16,7 +16,7 @@ use Rattle.select.specs.Sels.{sel}
 use Rattle.shift.specs.declared.Track.{Track}
 use Rattle.shift.specs.declared.Track.the-variants.{To, Dropped}
 use Rattle.shift.specs.Answers.{Followed, to, dropped, paperTrack}
-use Rattle.shift.specs.After.{shifted}
+use Rattle.shift.specs.Kinds.{shifted}
 use Rattle.shift.specs.Call.{orderedOk, both as ends, selShifted, kept, carriedOver}
 
 ends-dropped : (y : Followed Position) → dropped ≡ ends dropped y

@@ -7,7 +7,8 @@ use Rattle.edit.specs.Edits.{inserted, charsDeleted, lineFrom, lineTo, linesDel
 use Rattle.edit.specs.Refusals.{sum, smallRange, smallOk, fewRows, fewOk, payloadOk}
 use Rattle.edit.specs.Call.{firstOf}
 use Rattle.joins.specs.Turns.{gapLen}
-use Rattle.shift.specs.After.{afterInsert, afterDeleteChar, afterDeleteLines, afterDeleteBlock, startCols, afterJoin, afterInsertBlock, afterDeleteBlockChunks, afterDelete, shifted}
+use Rattle.after.specs.After.{afterInsert, afterDeleteChar, afterDeleteLines, afterDeleteBlock, startCols, afterJoin, afterInsertBlock, afterDeleteBlockChunks}
+use Rattle.shift.specs.Kinds.{afterDelete, shifted}
 use Rattle.shift.specs.Call.{orderedRange, orderedOk, positionShifted, selShifted}
 use Rattle.shift.specs.Examples.{Examples, FirstRefusals, Moves}
 

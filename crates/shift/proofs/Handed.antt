@@ -16,7 +16,7 @@ use Rattle.edit.specs.declared.MotionKind.the-variants.{Char, Line as Lines}
 use Rattle.edit.specs.declared.Edit.{Edit}
 use Rattle.edit.specs.declared.Edit.the-variants.{InsertChar, InsertStr, DeleteRange, JoinLines, SplitLines, Replace, InsertBlock, DeleteBlockChunks}
 use Rattle.edit.specs.Refusals.{small, few, smallPosition, smallRange, smallOk, fewOk}
-use Rattle.shift.specs.After.{afterDeleteChar}
+use Rattle.after.specs.After.{afterDeleteChar}
 use Rattle.shift.specs.Call.{orderedRange, orderedOk}
 
 -- ---- a shift does not read the second list

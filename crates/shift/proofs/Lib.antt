@@ -1,7 +1,3 @@
-pub mod Inserts
-pub mod Deletes
-pub mod Rectangles
-pub mod JoinCols
 pub mod Handed
 pub mod Verdicts
 pub mod Carrying

@@ -16,8 +16,8 @@ use Rattle.text.specs.Rows.{at, upto, lines, rowCount, lastRow, rowLen, clamp}
 use Rattle.text.specs.Text.{isLF}
 use Rattle.text.proofs.Spots.{clamp-within}
 use Rattle.text.proofs.Order.{past-is, upto-total}
-use Rattle.shift.proofs.Rectangles.{put-outside}
-use Rattle.shift.specs.After.{afterInsert, afterDeleteChar, afterDeleteBlock, startCols, afterJoin, afterInsertBlock, afterDeleteBlockChunks}
+use Rattle.after.proofs.Rectangles.{put-outside}
+use Rattle.after.specs.After.{afterInsert, afterDeleteChar, afterDeleteBlock, startCols, afterJoin, afterInsertBlock, afterDeleteBlockChunks}
 
 pub same : (p : Position) (r c : ℕ) → r ≡ p .row .0 → c ≡ p .col .0 → at r c ≡ p
 same p r c e f = rw (e, f)

@@ -27,9 +27,10 @@ use Rattle.shift.specs.declared.SelShifted.the-variants as asSelShifted
 use Rattle.shift.specs.declared.Carried.{Carried}
 use Rattle.shift.specs.declared.Carried.the-variants as asCarried
 use Rattle.shift.specs.Answers.{Followed, to, dropped, paperShifted, paperSelShifted, paperCarried}
-use Rattle.shift.specs.After.{afterDeleteChar, afterDelete, shifted}
+use Rattle.after.specs.After.{afterDeleteChar}
+use Rattle.shift.specs.Kinds.{afterDelete, shifted}
 use Rattle.shift.specs.Theorems.{KeepsBefore, Nothing, FollowsRange, UnchangedStays, SplitDrops, Settled}
-use Rattle.shift.proofs.Inserts.{insert-before}
+use Rattle.after.proofs.Inserts.{insert-before}
 use Rattle.shift.proofs.Still.{insert-block-above, insert-block-before, insert-nothing, delete-nothing, join-nothing, insert-block-nothing, delete-chunks-nothing}
 use Rattle.shift.proofs.Unchanged.{insert-unchanged, chars-unchanged, lines-unchanged}
 use Rattle.shift.proofs.UnchangedRows.{join-unchanged, insert-block-unchanged, delete-chunks-unchanged, block-unchanged}

@@ -14,7 +14,7 @@ use Rattle.text.proofs.Laws.{start-first, len-none, last-none, start-le}
 use Rattle.text.proofs.Order.{upto-both, earlier-first, later-second}
 use Rattle.text.proofs.Spots.{offset-le, offset-place, start-mono, offset-order, row-ends, clamp-within}
 use Rattle.edit.specs.Edits.{inserted, charsDeleted, lineFrom, lineTo, linesDeleted}
-use Rattle.shift.specs.After.{afterInsert, afterDeleteChar, afterDeleteLines}
+use Rattle.after.specs.After.{afterInsert, afterDeleteChar, afterDeleteLines}
 use Rattle.shift.proofs.Still.{same, insert-nothing, delete-nothing}
 
 -- ---- a splice that changes nothing puts in as much as it takes out

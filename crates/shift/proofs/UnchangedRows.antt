@@ -19,7 +19,7 @@ use Rattle.edit.specs.Edits.{joinRow, corner, height, breadth, joined, blockIns
 use Rattle.edit.specs.Refusals.{isSpace, spaces, sum}
 use Rattle.edit.proofs.Joins.{join-ended}
 use Rattle.edit.proofs.Sizes.{growth, blockInserted-length, growth-row, loss, chunksDeleted-length, loss-row}
-use Rattle.shift.specs.After.{afterDeleteBlock, afterJoin, afterInsertBlock, afterDeleteBlockChunks}
+use Rattle.after.specs.After.{afterDeleteBlock, afterJoin, afterInsertBlock, afterDeleteBlockChunks}
 use Rattle.shift.proofs.Still.{same, join-nothing, PastRows, past-rows}
 
 -- ---- joins

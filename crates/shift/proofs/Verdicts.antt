@@ -24,7 +24,7 @@ use Rattle.select.specs.declared.Sel.{Sel}
 use Rattle.shift.specs.declared.Carried.{Carried}
 use Rattle.shift.specs.declared.Track.{Track}
 use Rattle.shift.specs.Answers.{Followed, paperTrack, paperCarried}
-use Rattle.shift.specs.After.{shifted}
+use Rattle.shift.specs.Kinds.{shifted}
 use Rattle.shift.specs.Call.{orderedOk, shiftTests, both as ends, positionShifted, selShifted}
 use Rattle.shift.proofs.Handed.{small-first, few-first}
 

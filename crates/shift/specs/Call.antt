@@ -19,7 +19,7 @@ use Rattle.edit.specs.Call.{firstOf}
 use Rattle.select.specs.declared.Sel.{Sel}
 use Rattle.select.specs.Sels.{sel}
 use Rattle.shift.specs.Answers.{Followed, to, dropped}
-use Rattle.shift.specs.After.{shifted}
+use Rattle.shift.specs.Kinds.{shifted}
 
 -- 6 Reversed: "shift only: Char or Replace start after end, Line start row after end row"
 unfoldable pub orderedRange : Position → Position → MotionKind → Bool

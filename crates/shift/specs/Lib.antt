@@ -1,5 +1,5 @@
 pub mod Answers
-pub mod After
+pub mod Kinds
 pub mod Call
 pub mod Theorems
 pub mod Examples

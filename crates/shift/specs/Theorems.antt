@@ -17,7 +17,7 @@ use Rattle.edit.specs.Edits.{editedBy}
 use Rattle.edit.specs.Refusals.{isSpace, spaces, payloadOk}
 use Rattle.edit.specs.Theorems.{Stands}
 use Rattle.shift.specs.Answers.{to, dropped, paperShifted, paperSelShifted, paperCarried}
-use Rattle.shift.specs.After.{shifted}
+use Rattle.shift.specs.Kinds.{shifted}
 
 -- p stays where it is over the edit
 abbrev pub Stays : List ℕ → Edit → List ℕ → List ℕ → Position → Type 0

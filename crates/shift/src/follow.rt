@@ -1,13 +1,13 @@
 // A position followed through an edit, kind by kind; and the two ends of a selection.
 use crate::Carried;
 use crate::Track;
-use crate::boxes::after_delete_block;
-use crate::boxes::after_delete_block_chunks;
-use crate::boxes::after_insert_block;
-use crate::chars::after_delete_char;
-use crate::chars::after_delete_lines;
-use crate::chars::after_insert;
-use crate::rows::after_join;
+use after::after_delete_block;
+use after::after_delete_block_chunks;
+use after::after_delete_char;
+use after::after_delete_lines;
+use after::after_insert;
+use after::after_insert_block;
+use after::after_join;
 use edit::Edit;
 use edit::MotionKind;
 use select::Sel;
@@ -20,7 +20,7 @@ ghost use lib.ListN.{length};
 ghost use Rattle.text.specs.Text.{textLimit};
 ghost use Rattle.edit.specs.Refusals.{smallPosition, smallRange, smallOk, fewOk};
 ghost use Rattle.shift.specs.Answers.{paperTrack, paperCarried};
-ghost use Rattle.shift.specs.After.{afterDelete, shifted};
+ghost use Rattle.shift.specs.Kinds.{afterDelete, shifted};
 ghost use Rattle.shift.specs.Call.{orderedRange, orderedOk, both};
 
 fn after_delete(pos: Position, start: Position, end: Position, kind: MotionKind) -> Position

@@ -1,9 +1,6 @@
 // Where positions and selections stand once an edit has been made. The text is the one before the edit.
-mod boxes;
-mod chars;
 mod follow;
 mod judging;
-mod rows;
 
 use crate::follow::follow;
 use crate::follow::follow_sel;

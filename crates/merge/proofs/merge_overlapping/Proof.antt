@@ -6,8 +6,8 @@ use Rattle.merge.proofs.merge_overlapping.Tie as tie
 use Rattle.merge.proofs.merge_overlapping.Reads as reads
 use Rattle.merge.proofs.merge_overlapping.Lts as lts
 use Rattle.merge.proofs.collapsing.collapse.Reads as collapse-reads
-use Rattle.merge.proofs.sorting.copy.Reads as copy-reads
-use Rattle.merge.proofs.sorting.sort.Reads as sort-reads
+use Rattle.sorting.proofs.copy.Reads as copy-reads
+use Rattle.sorting.proofs.sort.Reads as sort-reads
 
 returns : tie.Need-returns
 returns c = let a = c .before .before .before .args in too-many (a .sels .now) (a .out .now) (c .if1 .taken)

@@ -3,7 +3,7 @@ use mathlib.Core.List.{List}
 use lib.ListN.{length}
 use Prim.Native.Nat.{ℕ, _+_, _-_, _≤_, _<_}
 use Rattle.select.specs.declared.Sel.{Sel}
-use Rattle.merge.specs.Flat.{flat}
+use Rattle.sorting.specs.Flat.{flat}
 use Rattle.merge.proofs.Turns.{Turning, turning-none, turning-first, turn-merge, turn-put, turning-done}
 use native.Mathlib.Omega.{arith}
 use borrow.Author.Needs.{needs}
@@ -12,8 +12,8 @@ use Rattle.merge.proofs.collapsing.collapse.Tie as tie
 use Rattle.merge.proofs.collapsing.collapse.Reads as reads
 use Rattle.merge.proofs.collapsing.collapse.Lts as lts
 use Rattle.merge.proofs.collapsing.merge_two.Reads as merge-two-reads
-use Rattle.merge.proofs.flat.put_sel.Reads as put-sel-reads
-use Rattle.merge.proofs.flat.sel_at.Reads as sel-at-reads
+use Rattle.sorting.proofs.put_sel.Reads as put-sel-reads
+use Rattle.sorting.proofs.sel_at.Reads as sel-at-reads
 use Rattle.select.proofs.Sel.overlaps.Reads as overlaps-reads
 
 abbrev Inv-loop : tie.InvT-loop

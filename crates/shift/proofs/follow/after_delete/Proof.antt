@@ -1,5 +1,5 @@
 use borrow.Author.Needs.{needs}
-use Rattle.shift.specs.After.{afterDelete}
+use Rattle.shift.specs.Kinds.{afterDelete}
 use Rattle.shift.proofs.Handed.{chars-handed, rows-handed}
 use Rattle.shift.proofs.follow.after_delete.Statement.{statement}
 use Rattle.shift.proofs.follow.after_delete.Tie as tie

@@ -1,5 +1,5 @@
 use borrow.Author.Needs.{needs}
-use Rattle.shift.specs.After.{shifted}
+use Rattle.shift.specs.Kinds.{shifted}
 use Rattle.shift.proofs.Handed.{small-numbers, char-handed, str-handed, range-handed, replace-handed, deleted-handed, chunks-handed}
 use Rattle.shift.proofs.follow.follow.Statement.{statement}
 use Rattle.shift.proofs.follow.follow.Tie as tie

@@ -1,0 +1,4 @@
+pub mod Inserts
+pub mod Deletes
+pub mod Rectangles
+pub mod JoinCols

@@ -1,0 +1,5 @@
+pub mod Sorted
+pub mod Flats
+pub mod Halves
+pub mod Weaves
+pub mod Theorems

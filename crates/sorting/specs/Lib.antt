@@ -1,0 +1,4 @@
+pub mod Flat
+pub mod Sorting
+pub mod Weaving
+pub mod Theorems
