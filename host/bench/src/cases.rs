@@ -1,0 +1,146 @@
+//! The text and the edits that are measured.
+
+use winchbarn::*;
+
+pub const CHARACTERS: usize = 12_000;
+const ROWS: u32 = 20;
+
+/// An edit with its payload and lists.
+#[derive(Clone, Debug, Default, PartialEq, Eq)]
+pub struct Whole {
+    pub edit: Edit,
+    pub payload: Vec<u32>,
+    pub first: Vec<u32>,
+    pub second: Vec<u32>,
+}
+
+/// Characters in rows of 50 to 69, the last of them cut where the count is reached; ASCII and kana mixed.
+pub fn mixed_text(count: usize) -> Vec<u32> {
+    let mut text = Vec::with_capacity(count);
+    for row in 0.. {
+        for col in 0..50 + row * 7 % 20 {
+            let kana = (row + col / 5) % 3 == 0;
+            text.push(if kana { 0x3042 } else { 0x61 } + (row * 11 + col) as u32 % 26);
+        }
+        text.push(0x0a);
+        if text.len() >= count {
+            text.truncate(count);
+            return text;
+        }
+    }
+    unreachable!()
+}
+
+fn row_count(text: &[u32]) -> u32 {
+    text.iter().filter(|&&value| value == 0x0a).count() as u32 + 1
+}
+
+/// One edit of each kind, in the middle of the text.
+pub fn edits(text: &[u32]) -> Vec<(&'static str, Whole)> {
+    let row = row_count(text) / 2;
+    [
+        flat_edits(row, text),
+        row_edits(row),
+        block_edits(row, text),
+    ]
+    .concat()
+}
+
+impl Whole {
+    fn new(kind: u32, start: Position, end: Position) -> Self {
+        Whole {
+            edit: Edit {
+                kind,
+                start,
+                end,
+                ..Edit::default()
+            },
+            ..Whole::default()
+        }
+    }
+
+    fn with_payload(self, payload: &[u32]) -> Self {
+        Whole {
+            payload: payload.to_vec(),
+            ..self
+        }
+    }
+
+    fn with_lists(self, first: Vec<u32>, second: Vec<u32>) -> Self {
+        Whole {
+            first,
+            second,
+            ..self
+        }
+    }
+}
+
+fn flat_edits(row: u32, text: &[u32]) -> Vec<(&'static str, Whole)> {
+    let here = Position { row, col: 30 };
+    let below = Position {
+        row: row + 1,
+        col: 40,
+    };
+    let insertion = Whole::new(INSERT_STR, here, here);
+    let hundred = &text[..100];
+    vec![
+        (
+            "InsertChar",
+            Whole::new(INSERT_CHAR, here, here).with_payload(&text[..1]),
+        ),
+        ("InsertStr of 1", insertion.clone().with_payload(&text[..1])),
+        ("InsertStr of 100", insertion.with_payload(hundred)),
+        (
+            "Delete Char, over two rows",
+            Whole::new(DELETE_CHAR, here, below),
+        ),
+        ("Delete Line, one row", Whole::new(DELETE_LINE, here, here)),
+        (
+            "Replace, over two rows by 100",
+            Whole::new(REPLACE, here, below).with_payload(hundred),
+        ),
+    ]
+}
+
+fn row_edits(row: u32) -> Vec<(&'static str, Whole)> {
+    let start = Position { row, col: 0 };
+    let joins = |kind| {
+        let mut whole = Whole::new(kind, start, start);
+        whole.edit.count = ROWS;
+        whole
+    };
+    let columns = (1..=ROWS).map(|i| 2 * i).collect();
+    let split = Whole::new(SPLIT_LINES, start, start);
+    vec![
+        ("JoinLines of 20", joins(JOIN_LINES)),
+        ("JoinLines of 20, spaced", joins(JOIN_LINES_SPACED)),
+        ("SplitLines of 20", split.with_lists(columns, Vec::new())),
+    ]
+}
+
+/// The column of the insertion is one that some rows do not reach; every second cut has a pad.
+fn block_edits(row: u32, text: &[u32]) -> Vec<(&'static str, Whole)> {
+    let at = |down, col| Position {
+        row: row + down,
+        col,
+    };
+    let tens = vec![10; ROWS as usize];
+    let pads = (0..ROWS).map(|i| i % 2 * 3).collect();
+    let chunks = text[..10].repeat(ROWS as usize);
+    vec![
+        (
+            "Delete Block, 20 rows",
+            Whole::new(DELETE_BLOCK, at(0, 20), at(ROWS - 1, 29)),
+        ),
+        (
+            "InsertBlock, 20 rows",
+            Whole::new(INSERT_BLOCK, at(0, 60), at(0, 60))
+                .with_payload(&chunks)
+                .with_lists(tens.clone(), Vec::new()),
+        ),
+        (
+            "DeleteBlockChunks, 20 rows",
+            Whole::new(DELETE_BLOCK_CHUNKS, at(0, 30), at(0, 30)).with_lists(tens, pads),
+        ),
+    ]
+}

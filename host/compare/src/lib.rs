@@ -1,0 +1,30 @@
+//! The core beside the original and document 01: the same input to both, and all that comes of it compared.
+//!
+//! `law` says what document 01 and the original make of a call, `lend` and `guard` lend its slices to the core and look them over
+//! afterwards, `small`, `cases`, `limits`, `bruises` and `damage` make the input, and `groups` runs it.
+
+pub mod bridge;
+pub mod bruises;
+pub mod calls;
+pub mod cases;
+pub mod damage;
+pub mod edits;
+pub mod framed;
+pub mod frames;
+pub mod groups;
+pub mod guard;
+pub mod law;
+pub mod lend;
+pub mod limits;
+pub mod merges;
+pub mod places;
+pub mod random;
+pub mod runs;
+pub mod sample;
+pub mod scripts;
+pub mod shifts;
+pub mod small;
+pub mod spans;
+pub mod tally;
+pub mod utf8;
+pub mod work;

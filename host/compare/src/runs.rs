@@ -1,0 +1,186 @@
+//! Demand 3: runs of edits, taken back and made again through the core alone.
+
+use std::fmt;
+
+use winchbarn::View;
+
+use crate::calls::{Call, Room, Shown, Whole};
+use crate::cases;
+use crate::edits;
+use crate::law::row_lengths;
+use crate::lend::{Given, Written};
+use crate::random::Random;
+use crate::tally::{Input, Verdict};
+use crate::work::Work;
+
+/// An opening text in its buffer, and edits that are tried one after another; those that are refused or not undoable are left out.
+pub struct Run {
+    pub buffer: Vec<u32>,
+    pub used: usize,
+    pub edits: Vec<Whole>,
+}
+
+/// A text in its buffer.
+#[derive(Clone, PartialEq, Eq)]
+struct State {
+    buffer: Vec<u32>,
+    used: usize,
+}
+
+impl State {
+    fn text(&self) -> &[u32] {
+        &self.buffer[..self.used]
+    }
+
+    fn call(&self, whole: &Whole) -> Call {
+        Call {
+            buffer: self.buffer.clone(),
+            view: View {
+                used: self.used,
+                ..View::default()
+            },
+            whole: whole.clone(),
+            room: Room::of_demand_3(&self.buffer),
+        }
+    }
+
+    /// The state after the edit, and its inverse; none where the edit is refused.
+    fn step(&self, whole: &Whole) -> Result<Option<(State, Whole)>, String> {
+        let call = self.call(whole);
+        let given = Given::of(whole);
+        let mut written = Written::of(&call.buffer, call.room);
+        let answer = edits::apply(&call, &given, &mut written);
+        given.expect_kept()?;
+        let Ok(applied) = answer else {
+            written.expect_kept()?;
+            return Ok(None);
+        };
+        let state = State {
+            buffer: written.text.lent().to_vec(),
+            used: applied.view.used,
+        };
+        let inverse = Whole {
+            edit: applied.inverse,
+            payload: written.payload.lent()[..applied.payload].to_vec(),
+            first: written.first.lent()[..applied.first].to_vec(),
+            second: written.second.lent()[..applied.second].to_vec(),
+        };
+        Ok(Some((state, inverse)))
+    }
+}
+
+/// A run that was made: the text at each stage, first and last included, and the inverses of the edits between them.
+struct Made {
+    stages: Vec<Vec<u32>>,
+    inverses: Vec<Whole>,
+    last: State,
+}
+
+impl Run {
+    fn make(&self) -> Result<Made, String> {
+        let mut state = State {
+            buffer: self.buffer.clone(),
+            used: self.used,
+        };
+        let mut stages = vec![state.text().to_vec()];
+        let mut inverses = Vec::new();
+        for whole in &self.edits {
+            if edits::undoable(&state.call(whole))? != Ok(true) {
+                continue;
+            }
+            if let Some((next, inverse)) = state.step(whole)? {
+                stages.push(next.text().to_vec());
+                inverses.push(inverse);
+                state = next;
+            }
+        }
+        Ok(Made {
+            stages,
+            inverses,
+            last: state,
+        })
+    }
+
+    /// How many edits were made, taken back and made again.
+    pub fn compare(&self) -> Verdict {
+        let made = self.make()?;
+        let undone = take_back(&made, "undo")?;
+        let redone = take_back(&undone, "redo")?;
+        match redone.stages == made.stages {
+            true => Ok(0),
+            false => Err("redo does not end with the edited text".into()),
+        }
+    }
+}
+
+/// The run of the inverses, last first, each accepted, with the same texts the other way round.
+fn take_back(made: &Made, what: &str) -> Result<Made, String> {
+    let mut state = made.last.clone();
+    let mut stages = vec![state.text().to_vec()];
+    let mut inverses = Vec::new();
+    let earlier = made.stages.iter().rev().skip(1);
+    for (whole, text) in made.inverses.iter().rev().zip(earlier) {
+        let step = state.step(whole)?;
+        let (next, inverse) = step.ok_or_else(|| format!("{what} {whole} is refused"))?;
+        if next.text() != text {
+            let found = Shown(next.text());
+            return Err(format!("{what} {whole} gives {found}, not {}", Shown(text)));
+        }
+        stages.push(next.text().to_vec());
+        inverses.push(inverse);
+        state = next;
+    }
+    Ok(Made {
+        stages,
+        inverses,
+        last: state,
+    })
+}
+
+impl fmt::Display for Run {
+    fn fmt(&self, f: &mut fmt::Formatter<'_>) -> fmt::Result {
+        let text = Shown(&self.buffer[..self.used]);
+        write!(f, "text {text} in a buffer of {}", self.buffer.len())?;
+        for whole in &self.edits {
+            write!(f, "\n{whole}")?;
+        }
+        Ok(())
+    }
+}
+
+impl Input for Run {
+    fn size(&self) -> usize {
+        self.edits.iter().map(Input::size).sum::<usize>() + 3 * self.used + self.buffer.len()
+    }
+}
+
+/// Runs of edits of every kind, in buffers that are sometimes tight.
+pub fn random(work: &mut Work) {
+    for _ in 0..work.cases {
+        let run = any_run(&mut work.random);
+        work.tally.note(&run, run.compare());
+    }
+}
+
+fn any_run(random: &mut Random) -> Run {
+    let text = match random.below(200) {
+        0 => cases::text(random, 12_000),
+        _ => cases::short_text(random),
+    };
+    let lengths = row_lengths(&text);
+    let count = random.between(1, 14);
+    let edits = (0..count).map(|_| {
+        let kind = cases::kind(random);
+        cases::whole(random, kind, &lengths)
+    });
+    let edits = edits.collect();
+    let used = text.len();
+    let mut buffer = text;
+    let spare = random.pick(&[0, 4, 40, 2000]);
+    buffer.resize(used + spare, 0xbe);
+    Run {
+        buffer,
+        used,
+        edits,
+    }
+}

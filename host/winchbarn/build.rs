@@ -1,0 +1,32 @@
+//! Links the archive of the proved core.
+
+use std::env;
+use std::path::PathBuf;
+use std::process::exit;
+
+const ARCHIVE: &str = "libwinchbarn.a";
+
+fn library_dir() -> PathBuf {
+    match env::var_os("WINCHBARN_LIB_DIR") {
+        Some(dir) => dir.into(),
+        None => {
+            PathBuf::from(env::var_os("CARGO_MANIFEST_DIR").unwrap()).join("../../target/staticlib")
+        }
+    }
+}
+
+fn main() {
+    println!("cargo:rerun-if-env-changed=WINCHBARN_LIB_DIR");
+    let dir = library_dir();
+    let archive = dir.join(ARCHIVE);
+    println!("cargo:rerun-if-changed={}", archive.display());
+    if !archive.is_file() {
+        eprintln!(
+            "{} is not there: run `rt staticlib winchbarn` in the repository's root",
+            archive.display()
+        );
+        exit(1);
+    }
+    println!("cargo:rustc-link-search=native={}", dir.display());
+    println!("cargo:rustc-link-lib=static=winchbarn");
+}

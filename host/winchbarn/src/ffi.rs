@@ -1,0 +1,236 @@
+//! The functions of `include/winchbarn.h` and the answers that they return by value.
+
+use crate::{Edit, Position, Sel, View};
+
+#[repr(C)]
+pub(crate) struct Count {
+    pub refusal: u32,
+    pub offset: usize,
+    pub count: usize,
+}
+
+#[repr(C)]
+pub(crate) struct Applied {
+    pub refusal: u32,
+    pub offset: usize,
+    pub view: View,
+    pub inverse: Edit,
+    pub payload: usize,
+    pub first: usize,
+    pub second: usize,
+}
+
+#[repr(C)]
+pub(crate) struct Place {
+    pub refusal: u32,
+    pub found: bool,
+    pub at: Position,
+}
+
+#[repr(C)]
+pub(crate) struct SelPlace {
+    pub refusal: u32,
+    pub found: bool,
+    pub sel: Sel,
+}
+
+#[repr(C)]
+pub(crate) struct Span {
+    pub refusal: u32,
+    pub covered: bool,
+    pub open: bool,
+    pub lo: u32,
+    pub hi: u32,
+}
+
+#[repr(C)]
+pub(crate) struct Said {
+    pub refusal: u32,
+    pub yes: bool,
+}
+
+unsafe extern "C" {
+    pub(crate) fn winchbarn_run_script(
+        input: *const u8,
+        input_len: usize,
+        out: *mut u8,
+        out_len: usize,
+    ) -> Count;
+
+    pub(crate) fn winchbarn_apply_edit(
+        text: *mut u32,
+        text_len: usize,
+        view: View,
+        edit: Edit,
+        payload: *const u32,
+        payload_len: usize,
+        first: *const u32,
+        first_len: usize,
+        second: *const u32,
+        second_len: usize,
+        out_payload: *mut u32,
+        out_payload_len: usize,
+        out_first: *mut u32,
+        out_first_len: usize,
+        out_second: *mut u32,
+        out_second_len: usize,
+    ) -> Applied;
+
+    pub(crate) fn winchbarn_apply_frame(
+        text: *mut u32,
+        text_len: usize,
+        view: View,
+        line: *const u8,
+        line_len: usize,
+        out_payload: *mut u32,
+        out_payload_len: usize,
+        out_first: *mut u32,
+        out_first_len: usize,
+        out_second: *mut u32,
+        out_second_len: usize,
+    ) -> Applied;
+
+    pub(crate) fn winchbarn_write_edit(
+        edit: Edit,
+        payload: *const u32,
+        payload_len: usize,
+        first: *const u32,
+        first_len: usize,
+        second: *const u32,
+        second_len: usize,
+        out: *mut u8,
+        out_len: usize,
+    ) -> Count;
+
+    pub(crate) fn winchbarn_undoable(
+        text: *const u32,
+        text_len: usize,
+        view: View,
+        edit: Edit,
+        payload: *const u32,
+        payload_len: usize,
+        first: *const u32,
+        first_len: usize,
+        second: *const u32,
+        second_len: usize,
+    ) -> Said;
+
+    pub(crate) fn winchbarn_clamp_position(
+        text: *const u32,
+        text_len: usize,
+        used: usize,
+        pos: Position,
+    ) -> Place;
+
+    pub(crate) fn winchbarn_box_fit(
+        text: *const u32,
+        text_len: usize,
+        used: usize,
+        cells: u32,
+    ) -> Place;
+
+    pub(crate) fn winchbarn_shift_position(
+        text: *const u32,
+        text_len: usize,
+        view: View,
+        edit: Edit,
+        payload: *const u32,
+        payload_len: usize,
+        first: *const u32,
+        first_len: usize,
+        second: *const u32,
+        second_len: usize,
+        pos: Position,
+    ) -> Place;
+
+    pub(crate) fn winchbarn_shift_sel(
+        text: *const u32,
+        text_len: usize,
+        view: View,
+        edit: Edit,
+        payload: *const u32,
+        payload_len: usize,
+        first: *const u32,
+        first_len: usize,
+        second: *const u32,
+        second_len: usize,
+        sel: Sel,
+    ) -> SelPlace;
+
+    pub(crate) fn winchbarn_merge_overlapping(
+        sels: *const u32,
+        sels_len: usize,
+        out: *mut u32,
+        out_len: usize,
+    ) -> Count;
+
+    pub(crate) fn winchbarn_row_span(kind: u32, sel: Sel, row: u32) -> Span;
+
+    pub(crate) fn winchbarn_decode(
+        bytes: *const u8,
+        bytes_len: usize,
+        out: *mut u32,
+        out_len: usize,
+    ) -> Count;
+
+    pub(crate) fn winchbarn_encode(
+        scalars: *const u32,
+        scalars_len: usize,
+        out: *mut u8,
+        out_len: usize,
+    ) -> Count;
+}
+
+#[cfg(test)]
+mod tests {
+    use super::*;
+    use std::mem::{align_of, offset_of, size_of};
+
+    fn layout<T>() -> (usize, usize) {
+        (size_of::<T>(), align_of::<T>())
+    }
+
+    #[test]
+    fn sizes_and_alignments_are_those_of_c_on_x86_64() {
+        assert_eq!(layout::<Position>(), (8, 4));
+        assert_eq!(layout::<View>(), (24, 8));
+        assert_eq!(layout::<Sel>(), (16, 4));
+        assert_eq!(layout::<Edit>(), (24, 4));
+        assert_eq!(layout::<Count>(), (24, 8));
+        assert_eq!(layout::<Applied>(), (88, 8));
+        assert_eq!(layout::<Place>(), (16, 4));
+        assert_eq!(layout::<SelPlace>(), (24, 4));
+        assert_eq!(layout::<Span>(), (16, 4));
+        assert_eq!(layout::<Said>(), (8, 4));
+    }
+
+    #[test]
+    fn fields_stand_where_c_has_them() {
+        let offsets = [
+            offset_of!(View, cursor),
+            offset_of!(View, changes),
+            offset_of!(Edit, start),
+            offset_of!(Edit, end),
+            offset_of!(Edit, count),
+            offset_of!(Applied, view),
+            offset_of!(Applied, inverse),
+            offset_of!(Applied, payload),
+            offset_of!(Applied, first),
+            offset_of!(Applied, second),
+            offset_of!(Place, found),
+            offset_of!(Place, at),
+            offset_of!(SelPlace, sel),
+            offset_of!(Span, covered),
+            offset_of!(Span, open),
+            offset_of!(Span, lo),
+            offset_of!(Span, hi),
+            offset_of!(Said, yes),
+        ];
+        assert_eq!(
+            offsets,
+            [
+                8, 16, 4, 12, 20, 16, 40, 64, 72, 80, 4, 8, 8, 4, 5, 8, 12, 4
+            ]
+        );
+    }
+}

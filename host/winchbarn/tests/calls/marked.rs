@@ -1,0 +1,222 @@
+//! Document 01's marked examples, by their numbers, and an accepted call of each function that they do not reach.
+
+use crate::support::{Buffer, Whole, at, edit, scalars};
+use winchbarn::*;
+
+const INSERT_SCRIPT: &[u8] = b"0161620a6364
+0200000001000000010000000100000002
+100000000000000001580a
+";
+const INSERT_OUTPUT: &[u8] = b"00110000000000000000010000000100000000
+0161580a620a6364
+0200000002000000010000000200000002
+";
+
+fn spaced_join(row: u32, count: u32) -> Edit {
+    Edit {
+        kind: JOIN_LINES_SPACED,
+        start: at(row, 0),
+        count,
+        ..Edit::default()
+    }
+}
+
+/// Applies an edit to a text and answers the text after it, its inverse and the buffer.
+fn applied(text: &str, whole: &Whole) -> (String, Whole, Buffer) {
+    let mut buffer = Buffer::holding(text);
+    let inverse = buffer.apply(whole).expect("the example is accepted");
+    (buffer.text(), inverse, buffer)
+}
+
+#[test]
+fn examples_1_and_2_rows() {
+    let clamped = |text: &str| {
+        let text = scalars(text);
+        clamp_position(&text, text.len(), at(9, 9))
+    };
+    assert_eq!(clamped(""), Ok(at(0, 0)));
+    assert_eq!(clamped("a\n"), Ok(at(1, 0)));
+}
+
+#[test]
+fn example_3_a_script() {
+    let mut out = [b'.'; 200];
+    let written = run_script(INSERT_SCRIPT, &mut out).unwrap();
+    assert_eq!(&out[..written], INSERT_OUTPUT);
+    assert!(out[written..].iter().all(|&byte| byte == b'.'));
+}
+
+#[test]
+fn example_4_char_delete_past_the_row() {
+    let cut = Whole::new(edit(DELETE_CHAR, at(0, 99), at(1, 2)), "", &[], &[]);
+    assert_eq!(Buffer::holding("ab\ncdef").undoable(&cut), Ok(false));
+    let (text, inverse, buffer) = applied("ab\ncdef", &cut);
+    assert_eq!(text, "abef");
+    assert_eq!(buffer.text[4..7], [0; 3]);
+    assert_eq!(buffer.view.cursor, at(0, 4));
+    assert_eq!(buffer.view.changes, 1);
+    let back = edit(INSERT_STR, at(0, 99), at(0, 0));
+    assert_eq!(inverse, Whole::new(back, "\ncd", &[], &[]));
+}
+
+#[test]
+fn examples_5_and_6_line_deletes() {
+    let row = |row| Whole::new(edit(DELETE_LINE, at(row, 0), at(row, 0)), "", &[], &[]);
+    let put = |place, payload| Whole::new(edit(INSERT_STR, place, at(0, 0)), payload, &[], &[]);
+    assert_eq!(Buffer::holding("a\nb").undoable(&row(1)), Ok(true));
+    let (text, inverse, buffer) = applied("a\nb", &row(1));
+    assert_eq!((text.as_str(), buffer.view.cursor), ("a", at(0, 0)));
+    assert_eq!(inverse, put(at(0, 1), "\nb"));
+    let (text, inverse, _) = applied("", &row(0));
+    assert_eq!(text, "");
+    assert_eq!(inverse, put(at(0, 0), ""));
+}
+
+#[test]
+fn examples_7_and_8_joins() {
+    let split =
+        |columns, flags| Whole::new(edit(SPLIT_LINES, at(0, 0), at(0, 0)), "", columns, flags);
+    let (text, inverse, _) = applied("a\n\nb", &Whole::new(spaced_join(0, 0), "", &[], &[]));
+    assert_eq!(text, "a\nb");
+    assert_eq!(inverse, split(&[1], &[0]));
+    let (text, inverse, _) = applied("a\nb\nc", &Whole::new(spaced_join(0, 5), "", &[], &[]));
+    assert_eq!(text, "a b c");
+    assert_eq!(inverse, split(&[1, 3], &[1, 1]));
+}
+
+#[test]
+fn example_9_block_insert() {
+    let block = Whole::new(edit(INSERT_BLOCK, at(0, 2), at(0, 0)), "XY", &[1, 1], &[]);
+    let (text, inverse, _) = applied("abc\nd", &block);
+    assert_eq!(text, "abXc\nd Y");
+    let chunks = edit(DELETE_BLOCK_CHUNKS, at(0, 2), at(0, 0));
+    assert_eq!(inverse, Whole::new(chunks, "", &[1, 1], &[0, 1]));
+}
+
+#[test]
+fn example_10_block_delete_and_back() {
+    let block = Whole::new(edit(DELETE_BLOCK, at(0, 2), at(1, 2)), "", &[], &[]);
+    let (text, inverse, mut buffer) = applied("abc\nd", &block);
+    assert_eq!(text, "ab\nd");
+    buffer.apply(&inverse).unwrap();
+    assert_eq!(buffer.text(), "abc\nd ");
+}
+
+#[test]
+fn example_11_splits() {
+    let split = |column| Whole::new(edit(SPLIT_LINES, at(0, 0), at(0, 0)), "", &[column], &[1]);
+    assert_eq!(applied("abc", &split(3)).0, "abc\n");
+    let mut buffer = Buffer::holding("abc");
+    let refusal = buffer.apply(&split(4)).unwrap_err();
+    assert_eq!((refusal.number, refusal.offset), (7, 0));
+    assert_eq!(buffer.text(), "abc");
+}
+
+#[test]
+fn example_12_merged_selections() {
+    let mut out = [7; 9];
+    assert_eq!(
+        merge_overlapping(&[0, 0, 0, 3, 0, 5, 0, 3], &mut out),
+        Ok(1)
+    );
+    assert_eq!(out, [0, 0, 0, 5, 7, 7, 7, 7, 7]);
+}
+
+#[test]
+fn example_13_shifts_over_a_join() {
+    let text = scalars("ab\ncd");
+    let view = View {
+        used: text.len(),
+        ..View::default()
+    };
+    let join = spaced_join(0, 1);
+    let position = shift_position(&text, view, join, &[], &[], &[], at(1, 2));
+    assert_eq!(position, Ok(Some(at(0, 5))));
+    let sel = Sel {
+        anchor: at(1, 2),
+        head: at(0, 1),
+    };
+    let shifted = Sel {
+        anchor: at(0, 5),
+        head: at(0, 1),
+    };
+    assert_eq!(
+        shift_sel(&text, view, join, &[], &[], &[], sel),
+        Ok(Some(shifted))
+    );
+    let split = edit(SPLIT_LINES, at(0, 0), at(0, 0));
+    assert_eq!(shift_sel(&text, view, split, &[], &[1], &[], sel), Ok(None));
+}
+
+#[test]
+fn example_14_replace_past_the_row() {
+    let replace = Whole::new(edit(REPLACE, at(0, 99), at(1, 2)), "X", &[], &[]);
+    assert_eq!(applied("ab\ncdef", &replace).0, "abefX");
+}
+
+#[test]
+fn a_frame_is_applied_as_its_edit_and_its_inverse_is_written_as_in_the_script() {
+    let mut buffer = Buffer::holding("ab\ncd");
+    let frame = b"100000000000000001580a";
+    let (mut payload, mut first, mut second) = ([0; 64], [0; LIST_LIMIT], [0; LIST_LIMIT]);
+    let done = apply_frame(
+        &mut buffer.text,
+        buffer.view,
+        frame,
+        &mut payload,
+        &mut first,
+        &mut second,
+    )
+    .unwrap();
+    buffer.view = done.view;
+    assert_eq!(buffer.text(), "aX\nb\ncd");
+    let mut line = [b'.'; 64];
+    let digits = write_edit(
+        done.inverse,
+        &payload[..done.payload],
+        &first[..done.first],
+        &second[..done.second],
+        &mut line,
+    )
+    .unwrap();
+    assert!(INSERT_OUTPUT.starts_with(&[b"00", &line[..digits], b"\n"].concat()));
+    assert_eq!(line[digits..], [b'.'; 64][digits..]);
+}
+
+#[test]
+fn the_box_is_left_at_its_first_overlong_row() {
+    let text = scalars("ab\nabcd\nabcde");
+    assert_eq!(box_fit(&text, text.len(), 3), Ok(Some(at(1, 3))));
+    assert_eq!(box_fit(&text, text.len(), 5), Ok(None));
+}
+
+#[test]
+fn a_selection_covers_a_row_from_its_start_between_and_to_its_end() {
+    let sel = Sel {
+        anchor: at(3, 4),
+        head: at(1, 2),
+    };
+    let spans = [0, 1, 2, 3].map(|row| row_span(0, sel, row).unwrap());
+    assert_eq!(
+        spans,
+        [
+            Span::Outside,
+            Span::Open { lo: 2 },
+            Span::Open { lo: 0 },
+            Span::Closed { lo: 0, hi: 4 },
+        ]
+    );
+    assert_eq!(row_span(2, sel, 2), Ok(Span::Closed { lo: 2, hi: 4 }));
+}
+
+#[test]
+fn utf8_is_read_and_written_in_all_four_lengths() {
+    let text = "a\u{e9}\u{3042}\u{10ffff}";
+    let mut read = [9; 5];
+    assert_eq!(decode(text.as_bytes(), &mut read), Ok(4));
+    assert_eq!(read, [0x61, 0xe9, 0x3042, 0x10ffff, 9]);
+    let mut written = [b'.'; 12];
+    assert_eq!(encode(&read[..4], &mut written), Ok(10));
+    assert_eq!(&written[..10], text.as_bytes());
+    assert_eq!(&written[10..], b"..");
+}

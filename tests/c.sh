@@ -1,0 +1,16 @@
+#!/usr/bin/env bash
+# Calls the archive from C (tests/c/calls.c) and reads the header as C++. Its last line says how many checks passed.
+set -euo pipefail
+cd "$(dirname "${BASH_SOURCE[0]}")/.."
+archive=${WINCHBARN_LIB_DIR:-target/staticlib}/libwinchbarn.a
+if ! [ -f "$archive" ]; then
+    echo "$archive is not there: run \`rt staticlib winchbarn\` in the repository's root" >&2
+    exit 1
+fi
+warnings=(-Wall -Wextra -Werror -pedantic)
+
+g++ -x c++ "${warnings[@]}" -fsyntax-only include/winchbarn.h
+
+mkdir -p target/c
+gcc -std=c99 "${warnings[@]}" -Iinclude -o target/c/calls tests/c/calls.c "$archive"
+target/c/calls

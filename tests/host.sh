@@ -1,0 +1,37 @@
+#!/usr/bin/env bash
+# The archive called from C and from Rust, and compared with the original: all of host/ but its benchmarks. The archive has to be there
+# (`rt staticlib winchbarn`). Its last line says how many tests passed.
+set -euo pipefail
+cd "$(dirname "${BASH_SOURCE[0]}")/.."
+size=quick
+if [ "$(uname -m)" != x86_64 ]; then
+    tests/bridge.sh
+    export WINCHBARN_LIB_DIR=$PWD/target/bridge
+    size=tiny
+fi
+passed=0
+log=$(mktemp)
+trap 'rm -f "$log"' EXIT
+
+add() { # the verdict that the log ends with
+    local verdict
+    verdict=$(tail -n 1 "$log")
+    if ! [[ $verdict =~ ^[1-9][0-9]*\ passed,\ 0\ failed$ ]]; then
+        echo "no verdict of tests that passed: $verdict" >&2
+        exit 1
+    fi
+    passed=$((passed + ${verdict%% *}))
+}
+
+tests/c.sh | tee "$log"
+add
+
+cargo test --release --offline --manifest-path host/Cargo.toml 2>&1 | tee "$log"
+awk '/^test result: ok\. [0-9]+ passed; 0 failed/ { n += $4 } END { print n + 0 " passed, 0 failed" }' "$log" | tee -a "$log"
+add
+
+cargo build --release --offline --quiet --manifest-path host/Cargo.toml -p compare
+host/target/release/compare "$size" | tee "$log"
+add
+
+echo "$passed passed, 0 failed"
