@@ -52,8 +52,8 @@ marks-over n ms l e = rw (← e) (marks-flat ms (drop (length (flatMarks ms)) l)
 pub part-five : (b : List ℕ) (a : ℕ) → a + 5 ≤ length b → length (take (a + 5 - a) (drop a b)) ≡ 5
 part-five b a h = simp (length-take, length-drop) (omega arith)
 
-pub part-pasted : (b y : List ℕ) (a : ℕ) → length y ≡ 5 → take a b ++ (y ++ drop (a + 5 - a) (drop a b)) ≡ paste b a y 5
-part-pasted b y a e =
+pub five-pasted : (b y : List ℕ) (a : ℕ) → length y ≡ 5 → take a b ++ (y ++ drop (a + 5 - a) (drop a b)) ≡ paste b a y 5
+five-pasted b y a e =
     let k : a + 5 - a ≡ 5 = omega arith in
     rw (k, drop-drop, take-all 5 y (omega arith), append-assoc)
 

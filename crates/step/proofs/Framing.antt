@@ -14,7 +14,7 @@ use Rattle.frame.specs.Format.{Frame, text, mark, edit}
 use Rattle.frame.specs.Forms.{malformed, lineForm}
 use Rattle.frame.specs.Reads.{readForm, frameRead}
 use Rattle.place.specs.Places.{placed, seen}
-use Rattle.place.proofs.InPlace.{edit-placed, text-placed, mark-placed}
+use Rattle.place.proofs.InPlace.{edit-placed, text-placed, placed-or}
 use Rattle.step.specs.States.{State, textIn}
 use Rattle.step.specs.Steps.{loaded, edited, framed, sees, step}
 
@@ -47,4 +47,4 @@ module _ (s : State) (l : List ℕ) where
   pub mark-step : (m : Sel) → frameRead l ≡ done (mark m) → step s l .printed ≡ [] → core (step s l .state) ≡ core s
   unfolding framed
   mark-step m e p =
-      ⊎-elim (λ h. rw (placed-step (mark m) e h)) (λ h. absurd (malformed-prints h p)) (mark-placed (s .place) (textIn s) (lineForm l) m e)
+      ⊎-elim (λ h. rw (placed-step (mark m) e h)) (λ h. absurd (malformed-prints h p)) (placed-or (s .place) (textIn s) (lineForm l))

@@ -23,7 +23,7 @@ use Rattle.edit.specs.Refusals.{smallOk, fewOk, payloadOk}
 use Rattle.edit.specs.Call.{firstOf, verdictOf, lent, Outcome, resultOf, givenTests, applied}
 use Rattle.edit.specs.Demand3.{State as Core, after, returned}
 use Rattle.edit.proofs.Accepted.{doing}
-use Rattle.edit.proofs.Calls.{Called, next, lengths-kept, accepted-called}
+use Rattle.edit.proofs.Calls.{Called, lengths-kept, accepted-called}
 use Rattle.edit.proofs.Workers.{accepted}
 use Rattle.given.specs.Tests.{laterTests}
 use Rattle.select.specs.declared.Sel.{Sel}

@@ -11,7 +11,7 @@ use Rattle.edit.specs.Edits.{Whole, whole}
 use Rattle.place.specs.Places.{markLimit}
 use Rattle.step.specs.declared.Script.{Script}
 use Rattle.step.specs.declared.Progress.{Progress}
-use Rattle.step.specs.States.{State, scriptOf, stateOf, bufferLimit, flatMarks, marksIn}
+use Rattle.step.specs.States.{scriptOf, stateOf, bufferLimit, flatMarks, marksIn}
 use Rattle.step.specs.Steps.{Stepped, step}
 
 -- What holds between two lines: the text is admitted and in a buffer of at most 4,096, and the marks' slice has room for all marks and

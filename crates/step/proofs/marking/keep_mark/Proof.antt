@@ -1,7 +1,7 @@
 use mathlib.Core.Path.{refl}
 use Prim.Native.Nat.{_-_, _*_}
 use borrow.Author.Needs.{needs}
-use Rattle.step.proofs.FlatMarks.{length-mark, part-pasted}
+use Rattle.step.proofs.FlatMarks.{length-mark, five-pasted}
 use Rattle.step.specs.States.{flatMark}
 use Rattle.shift.specs.Answers.{to}
 use Rattle.step.proofs.marking.keep_mark.Statement.{statement}
@@ -35,7 +35,7 @@ same-length : tie.Need-same-length
 same-length c = search needs
 
 returns : tie.Need-returns
-returns c = let a = c .before .before .before .before .before .before .before .args in (refl, refl, rw (c .before .before .put-mark .ensures) (part-pasted _ (flatMark (to (a .sel))) ((a .script .place .marks - 1) * 5) (length-mark (to (a .sel)))))
+returns c = let a = c .before .before .before .before .before .before .before .args in (refl, refl, rw (c .before .before .put-mark .ensures) (five-pasted _ (flatMark (to (a .sel))) ((a .script .place .marks - 1) * 5) (length-mark (to (a .sel)))))
 
 pub keep-mark-spec : {M : Type 1} → statement M
 keep-mark-spec =

@@ -14,9 +14,7 @@ use Rattle.hex.specs.declared.Unhexed.the-variants.{Octets, BadFrame, NoRoom}
 use Rattle.hex.specs.Digits.{unhexed, lineOk}
 use Rattle.hex.specs.Calls.{paperUnhexed, bytesInto}
 use Rattle.hex.proofs.Told.{told-bytes, told-bad, told-full}
-use Rattle.frame.specs.declared.Head.{Head}
-use Rattle.frame.specs.declared.Head.the-variants.{Malformed}
-use Rattle.frame.specs.Forms.{formOf, headOf, lineForm}
+use Rattle.frame.specs.Forms.{malformed, formOf, lineForm}
 
 -- u is the answer to the line l, and o what is then in the slice
 module _ (l out o : List ℕ) (u : Unhexed) (e : outcome (paperUnhexed u) o ≡ bytesInto l out) where
@@ -30,13 +28,13 @@ module _ (l out o : List ℕ) (u : Unhexed) (e : outcome (paperUnhexed u) o ≡ 
     pub count-within : n ≤ length o
     count-within = rw (told .2) (omega (arith, told .1, length-append (unhexed l) (drop (length (unhexed l)) out)))
 
-    pub line-read : (h : Head) → h ≡ headOf (formOf (take (n - 0) (drop 0 o))) → h ≡ headOf (lineForm l)
+    pub line-read : formOf (take (n - 0) (drop 0 o)) ≡ lineForm l
     unfolding lineForm
-    line-read h f = f ∙ rw (sub-zero, told .0, told .2, told .1, take-append-seam)
+    line-read = rw (sub-zero, told .0, told .2, told .1, take-append-seam)
 
-  pub line-bad : u ≡ BadFrame → Malformed ≡ headOf (lineForm l)
-  unfolding lineForm headOf
+  pub line-bad : u ≡ BadFrame → malformed ≡ lineForm l
+  unfolding lineForm
   line-bad q = rw (told-bad l out o (known-as BadFrame q))
 
-  pub line-roomy : 18_432 ≡ length out → u ≡ NoRoom → Malformed ≡ headOf (lineForm l)
-  line-roomy h q = absurd (told-full l out o (omega arith) (known-as NoRoom q))
+  pub line-roomy : 18_432 ≤ length out → u ≡ NoRoom → ⊥
+  line-roomy h q = told-full l out o (omega arith) (known-as NoRoom q)
