@@ -21,7 +21,9 @@ use Rattle.frame.specs.Format.{editBytes, frameBytes}
 use Rattle.frame.specs.Forms.{markForm, insertForm, formBy, lineForm}
 use Rattle.frame.specs.Reads.{ahead, contents, firstList, textOf, editOf, readForm}
 use Rattle.place.specs.Places.{placed, seen}
-use Rattle.step.specs.Steps.{loaded, inOrder, carried, answered, ran, framed, step, markLine, markLines, ending}
+use Rattle.marking.specs.InOrder.{inOrder}
+use Rattle.marking.specs.MarkLines.{markLine, markLines}
+use Rattle.step.specs.Steps.{loaded, carried, answered, ran, framed, step, ending}
 use Rattle.script.specs.Scripts.{lineStep, run}
 use Rattle.marked.specs.Marked.{Marked}
 

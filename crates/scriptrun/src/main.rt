@@ -2,13 +2,13 @@
 // pieces and be of any length.
 use libc::STDIN_FILENO;
 use libc::STDOUT_FILENO;
+use marking::print_mark;
+use printing::print_text;
 use step::LINE_ROOM;
 use step::MARK_ROOM;
 use step::Script;
 use step::TEXT_ROOM;
 use step::opening;
-use step::print_mark;
-use step::print_text;
 use step::step;
 ghost use mathlib.Core.Path.{_≡_};
 ghost use Prim.Native.Nat.{_+_, _≤_};

@@ -31,18 +31,22 @@ use Rattle.shift.proofs.Handed.{small-first, few-first}
 use Rattle.frame.specs.Format.{Frame, edit, frameBytes}
 use Rattle.frame.specs.Inverses.{HasLine}
 use Rattle.reader.proofs.EditLines.{Held}
+use Rattle.printing.specs.Prints.{printedAs}
+use Rattle.printing.proofs.Printed.{printed-length}
+use Rattle.marking.specs.FlatMarks.{flatMarks, marksIn}
+use Rattle.marking.specs.Carries.{carriedMark}
+use Rattle.marking.specs.InOrder.{inOrder}
+use Rattle.marking.proofs.FlatMarks.{length-marks, count-marks}
+use Rattle.marking.proofs.Orders.{in-order}
 use Rattle.step.specs.declared.Script.{Script}
 use Rattle.step.specs.declared.Progress.{Progress}
-use Rattle.step.specs.States.{State, bufferLimit, flatMarks, marksIn, stateOf}
-use Rattle.step.specs.Steps.{printedAs, refuses, lentTo, inOrder, carried, answered, ran, edited, framed}
+use Rattle.step.specs.States.{State, bufferLimit, stateOf}
+use Rattle.step.specs.Steps.{refuses, lentTo, carried, answered, ran, edited, framed}
 use Rattle.step.specs.Calls.{Ready, Left, left, leaves, inverseIn}
-use Rattle.step.specs.Carries.{carriedMark}
-use Rattle.step.proofs.Orders.{in-order}
 use Rattle.step.proofs.Framing.{core}
 use Rattle.step.proofs.Callings.{beside}
-use Rattle.step.proofs.FlatMarks.{length-marks, count-marks}
-use Rattle.step.proofs.Carrying.{moved-marks}
-use Rattle.step.proofs.Readies.{printed-length, inverse-lines, judged-given}
+use Rattle.step.proofs.Readies.{inverse-lines, judged-given}
+use Rattle.step.proofs.Shifts.{moved-marks}
 
 -- the inverse as it is lent to be printed
 module _ (a : Applied) (x f s : List ℕ) where

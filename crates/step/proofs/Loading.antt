@@ -16,10 +16,11 @@ use Rattle.select.specs.declared.Sel.{Sel}
 use Rattle.shift.specs.Answers.{Followed}
 use Rattle.hex.specs.Digits.{hexed}
 use Rattle.frame.specs.Format.{Frame, text}
+use Rattle.printing.specs.Prints.{printedAs}
 use Rattle.step.specs.declared.Script.{Script}
 use Rattle.step.specs.declared.Progress.{Progress}
 use Rattle.step.specs.States.{State, state}
-use Rattle.step.specs.Steps.{printedAs, refuses, loaded, framed}
+use Rattle.step.specs.Steps.{refuses, loaded, framed}
 use Rattle.step.specs.Calls.{part, partOf}
 
 -- what `refuse` leaves

@@ -40,19 +40,19 @@ use Rattle.frame.proofs.Inverses.{inverses-have-lines, texts-have-lines}
 use Rattle.place.specs.declared.Place.{Place}
 use Rattle.place.specs.Places.{markLimit, judged, seen}
 use Rattle.place.proofs.InPlace.{mark-few}
+use Rattle.printing.specs.Prints.{printedAs}
+use Rattle.printing.proofs.Printed.{printed-length}
+use Rattle.marking.specs.FlatMarks.{flatMark, flatMarks, marksIn}
+use Rattle.marking.proofs.FlatMarks.{length-mark, length-marks, flat-append, count-marks, marks-over}
 use Rattle.step.specs.declared.Script.{Script}
-use Rattle.step.specs.States.{State, state, textIn, bufferLimit, opening, flatMark, flatMarks, marksIn, stateOf, scriptOf}
-use Rattle.step.specs.Steps.{Stepped, stepped, printedAs, refuses, loaded, lentTo, carried, answered, ran, ordered, framed, sees, step}
+use Rattle.step.specs.States.{State, state, textIn, bufferLimit, opening, stateOf, scriptOf}
+use Rattle.step.specs.Steps.{Stepped, stepped, refuses, loaded, lentTo, carried, answered, ran, ordered, framed, sees, step}
 use Rattle.step.specs.Calls.{Ready}
-use Rattle.step.proofs.FlatMarks.{length-mark, length-marks, flat-append, count-marks, marks-over}
 use Rattle.step.proofs.Framing.{core}
 use Rattle.step.proofs.Callings.{once}
 use Rattle.step.proofs.Admitted.{edited-admitted}
 
 -- ---- lines printed
-
-pub printed-length : (bs : List ℕ) → length (printedAs bs) ≡ length bs * 2 + 1
-printed-length bs = rw length-append (omega (arith, two-digits bs))
 
 line-short : (f : Frame) → HasLine f → length (frameBytes f) ≤ 18_432
 line-short f h = omega (arith, line-done f (hexed (frameBytes f)) h .2, two-digits (frameBytes f))

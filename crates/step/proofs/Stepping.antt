@@ -23,10 +23,12 @@ use Rattle.frame.proofs.Heads.{malformed-by-head, mark-by-head}
 use Rattle.place.specs.declared.Place.{Place}
 use Rattle.place.specs.Places.{judged, seen}
 use Rattle.place.proofs.InPlace.{in-place, mark-few, edit-seen}
+use Rattle.printing.specs.Prints.{printedAs}
+use Rattle.marking.specs.FlatMarks.{flatMark, flatMarks}
 use Rattle.step.specs.declared.Script.{Script}
 use Rattle.step.specs.declared.Progress.{Progress}
-use Rattle.step.specs.States.{State, state, stateOf, textIn, scriptOf, flatMark, flatMarks}
-use Rattle.step.specs.Steps.{Stepped, stepped, printedAs, refuses, loaded, framed, sees, step}
+use Rattle.step.specs.States.{State, state, stateOf, textIn, scriptOf}
+use Rattle.step.specs.Steps.{Stepped, stepped, refuses, loaded, framed, sees, step}
 use Rattle.step.specs.Calls.{Ready, Left, left, leaves, stepLeaves, Part, part, partOf}
 use Rattle.step.proofs.Readies.{ready-step, printed-short, ready-seen, mark-kept}
 

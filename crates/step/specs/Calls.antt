@@ -9,9 +9,10 @@ use Rattle.text.specs.Text.{textOk}
 use Rattle.edit.specs.declared.Applied.{Applied}
 use Rattle.edit.specs.Edits.{Whole, whole}
 use Rattle.place.specs.Places.{markLimit}
+use Rattle.marking.specs.FlatMarks.{flatMarks, marksIn}
 use Rattle.step.specs.declared.Script.{Script}
 use Rattle.step.specs.declared.Progress.{Progress}
-use Rattle.step.specs.States.{scriptOf, stateOf, bufferLimit, flatMarks, marksIn}
+use Rattle.step.specs.States.{scriptOf, stateOf, bufferLimit}
 use Rattle.step.specs.Steps.{Stepped, step}
 
 -- What holds between two lines: the text is admitted and in a buffer of at most 4,096, and the marks' slice has room for all marks and

@@ -1,10 +1,7 @@
 // Edit frames.
 use crate::Progress;
 use crate::Script;
-use crate::ends::in_order;
-use crate::marking::carry_copy;
-use crate::prints::print_inverse;
-use crate::prints::refuse;
+use crate::refusing::refuse;
 use apply::apply_judged;
 use edit::Answer;
 use edit::Applied;
@@ -13,7 +10,10 @@ use edit::Refusal;
 use edit::Verdict;
 use frame::BYTE_LIMIT;
 use given::judge_admitted;
+use marking::carry_copy;
+use marking::in_order;
 use place::Place;
+use printing::print_inverse;
 use reader::FrameRead;
 use reader::read;
 use splice::copy_in;
@@ -34,8 +34,9 @@ ghost use Rattle.frame.specs.Format.{edit as editFrame, frameBytes};
 ghost use Rattle.frame.specs.Forms.{headOf, lineForm};
 ghost use Rattle.frame.specs.Reads.{frameRead};
 ghost use Rattle.frame.specs.Inverses.{HasLine};
+ghost use Rattle.printing.specs.Prints.{printedAs};
 ghost use Rattle.step.specs.States.{stateOf};
-ghost use Rattle.step.specs.Steps.{printedAs, lentTo, ran, edited, framed};
+ghost use Rattle.step.specs.Steps.{lentTo, ran, edited, framed};
 ghost use Rattle.step.specs.Calls.{Ready, left, leaves, inverseIn};
 
 // What an accepted edit leaves beside its text: the marks over it, and the line of its inverse.

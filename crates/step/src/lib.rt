@@ -1,21 +1,18 @@
 // A script, one line at a time.
 mod edits;
-mod ends;
+mod keeping;
 mod loads;
-mod marking;
-mod prints;
+mod refusing;
 
 use crate::edits::step_edit;
+use crate::keeping::keep_mark;
 use crate::loads::step_text;
-use crate::marking::keep_mark;
-use crate::prints::refuse;
+use crate::refusing::refuse;
 use edit::Refusal;
 use edit::View;
 use frame::Head;
-pub use marking::print_mark;
 use place::Place;
 use place::judge;
-pub use prints::print_text;
 use text::Col;
 use text::Position;
 use text::Row;

@@ -1,7 +1,7 @@
 // Text frames.
 use crate::Progress;
 use crate::Script;
-use crate::prints::refuse;
+use crate::refusing::refuse;
 use edit::Refusal;
 use frame::BYTE_LIMIT;
 use reader::FrameRead;
