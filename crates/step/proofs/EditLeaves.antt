@@ -24,8 +24,6 @@ use Rattle.edit.specs.Demand3.{returned}
 use Rattle.edit.proofs.Calls.{lengths-kept, answer-fits}
 use Rattle.edit.proofs.Workers.{given-passed, applied-refused}
 use Rattle.given.specs.Tests.{laterTests}
-use Rattle.select.specs.declared.Sel.{Sel}
-use Rattle.shift.specs.Answers.{Followed}
 use Rattle.shift.specs.Call.{orderedOk}
 use Rattle.shift.proofs.Handed.{small-first, few-first}
 use Rattle.frame.specs.Format.{Frame, edit, frameBytes}
@@ -42,7 +40,7 @@ use Rattle.step.specs.declared.Script.{Script}
 use Rattle.step.specs.declared.Progress.{Progress}
 use Rattle.step.specs.States.{State, bufferLimit, stateOf}
 use Rattle.step.specs.Steps.{refuses, lentTo, carried, answered, ran, edited, framed}
-use Rattle.step.specs.Calls.{Ready, Left, left, leaves, inverseIn}
+use Rattle.step.specs.Calls.{Ready, Left, left, leaves, carriedIn, inverseIn}
 use Rattle.step.proofs.Framing.{core}
 use Rattle.step.proofs.Callings.{beside}
 use Rattle.step.proofs.Readies.{inverse-lines, judged-given}
@@ -116,6 +114,10 @@ module _ (c : Script) (t m : List ℕ) (h : Ready c t m) where
             rw (front t (c .view .used)) (few-first (take (c .view .used) t) (w .edit) (w .payload) (w .first) (w .second) (T-true (fewOk (take (c .view .used) t) (w .edit) (w .payload) (w .first) (w .second)) (p .fews))),
           )
 
+      pub carried-over : orderedOk (w .edit) ≡ true → (n : List ℕ)
+          → n ≡ over (flatMarks (map (carriedMark (take (c .view .used - 0) (drop 0 t)) (w .edit) (w .payload) (w .first)) (marksIn (c .place .marks) m))) m → n ≡ carriedIn s w m
+      carried-over ends n e = e ∙ rw (front t (c .view .used), moved-marks s w g ends (marksIn (c .place .marks) m))
+
     module _ (p : Paper Applied) (t′ x f g : List ℕ) (e : outcome p t′ x f g ≡ applied (c .view) (w .edit) lentHere) where
       same : outcome p t′ x f g ≡ call
       same =
@@ -123,9 +125,6 @@ module _ (c : Script) (t m : List ℕ) (h : Ready c t m) where
 
       answers : call .answer ≡ p
       answers = ap (λ (r : Outcome). r .answer) (sym same)
-
-      pub text-long : length t′ ≡ length t
-      text-long = ap (λ (r : Outcome). length (r .text)) same ∙ lengths-kept (c .view) (w .edit) (lentTo s w) .text
 
       payload-long : length x ≡ length t
       payload-long =
@@ -173,13 +172,11 @@ module _ (c : Script) (t m : List ℕ) (h : Ready c t m) where
               rw inverse-same (inverse-lines c t m h w a (answers ∙ q)),
             )
 
-        module _ (v : verdictOf (givenTests (c .view) (w .edit) (lentTo s w)) ≡ done tt) (ends : orderedOk (w .edit) ≡ true) (n : List ℕ)
-            (moved : n ≡ over (flatMarks (map (carriedMark (take (c .view .used - 0) (drop 0 t)) (w .edit) (w .payload) (w .first)) (marksIn (c .place .marks) m))) m) where
+        module _ (n : List ℕ) (moved : n ≡ carriedIn s w m) where
           pub moved-long : length n ≡ length m
           moved-long =
-              let f : Followed Sel → Followed Sel = carriedMark (take (c .view .used - 0) (drop 0 t)) (w .edit) (w .payload) (w .first) in
               let ms = marksIn (c .place .marks) m in
-              let l : length (flatMarks (map f ms)) ≡ 5 * c .place .marks = omega (arith, length-marks (map f ms), length-map ms f, count-marks (c .place .marks) m) in
+              let l : length (flatMarks (map (carried s w) ms)) ≡ 5 * c .place .marks = omega (arith, length-marks (map (carried s w) ms), length-map ms (carried s w), count-marks (c .place .marks) m) in
               ap length moved ∙ simp (length-append, length-drop) (omega (arith, h .few, h .room))
 
           pub accepted-leaves : (r : Progress) (o u m′ : List ℕ)
@@ -188,8 +185,7 @@ module _ (c : Script) (t m : List ℕ) (h : Ready c t m) where
           unfolding answered
           accepted-leaves r o u m′ z =
               let b : t′ ≡ call .text = ap (λ (i : Outcome). i .text) same in
-              let k : n ≡ over (flatMarks (map (carried s w) (marksIn (c .place .marks) m))) m = moved ∙ rw (front t (c .view .used), moved-marks s w v ends (marksIn (c .place .marks) m)) in
-              rw (ran-answered (done a) (answers ∙ q), b, z .0, z .1, z .2, z .3, k, inverse-same)
+              rw (ran-answered (done a) (answers ∙ q), b, z .0, z .1, z .2, z .3, moved, inverse-same)
 
 -- an edit e with its ends in order is d, which was judged
 module _ (c : Script) (t m : List ℕ) (h : Ready c t m) (e d : Edit) (x f g : List ℕ) (q : d ≡ inOrder e) (v : Verdict)

@@ -1,6 +1,6 @@
 -- What the functions of a step leave in the script's record and in the slices lent to them.
 use mathlib.Core.Bool.{true}
-use mathlib.Core.List.{List}
+use mathlib.Core.List.{List, map}
 use mathlib.Core.Path.{_≡_}
 use Prim.Native.Nat.{ℕ, _≤_}
 use lib.ListN.{length, take}
@@ -12,8 +12,8 @@ use Rattle.place.specs.Places.{markLimit}
 use Rattle.marking.specs.FlatMarks.{flatMarks, marksIn}
 use Rattle.step.specs.declared.Script.{Script}
 use Rattle.step.specs.declared.Progress.{Progress}
-use Rattle.step.specs.States.{scriptOf, stateOf, bufferLimit}
-use Rattle.step.specs.Steps.{Stepped, step}
+use Rattle.step.specs.States.{State, scriptOf, stateOf, bufferLimit}
+use Rattle.step.specs.Steps.{Stepped, carried, step}
 
 -- What holds between two lines: the text is admitted and in a buffer of at most 4,096, and the marks' slice has room for all marks and
 -- holds those that are kept.
@@ -42,6 +42,10 @@ leaves x m o =
 
 abbrev pub stepLeaves : Script → List ℕ → List ℕ → List ℕ → List ℕ → Left
 stepLeaves c l t m o = leaves (step (stateOf c t m) l) m o
+
+-- the marks' slice over an edit that is accepted
+abbrev pub carriedIn : State → Whole ℕ → List ℕ → List ℕ
+carriedIn s w m = over (flatMarks (map (carried s w) (s .marks))) m
 
 -- the inverse as an accepted call left it in slices
 abbrev pub inverseIn : Applied → List ℕ → List ℕ → List ℕ → Whole ℕ
