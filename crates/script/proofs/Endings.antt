@@ -17,8 +17,8 @@ use Rattle.printing.specs.Prints.{printedAs}
 use Rattle.printing.proofs.Printed.{printed-length}
 use Rattle.marking.specs.FlatMarks.{markIn, marksIn}
 use Rattle.marking.specs.MarkLines.{markLine, markLines}
-use Rattle.step.specs.declared.Script.{Script}
-use Rattle.step.specs.States.{stateOf}
+use Rattle.loading.specs.declared.Script.{Script}
+use Rattle.loading.specs.States.{stateOf}
 use Rattle.step.specs.Steps.{ending}
 use Rattle.step.specs.Calls.{Ready}
 use Rattle.step.proofs.Readies.{ready-lines}

@@ -19,7 +19,7 @@ use Rattle.frame.specs.Theorems.{usedOf}
 use Rattle.frame.proofs.Theorems.{reads-written}
 use Rattle.frame.proofs.Inverses.{inverses-have-lines, texts-have-lines}
 use Rattle.marking.specs.MarkLines.{markLines}
-use Rattle.step.specs.States.{State, textIn, bufferLimit, opening}
+use Rattle.loading.specs.States.{State, textIn, bufferLimit, opening}
 use Rattle.step.specs.Steps.{step}
 use Rattle.step.proofs.Framing.{core}
 use Rattle.step.proofs.Callings.{lined}

@@ -13,7 +13,7 @@ use Rattle.hex.specs.Digits.{hexed}
 use Rattle.frame.specs.Format.{text, mark, edit, frameBytes}
 use Rattle.frame.specs.Reads.{frameRead}
 use Rattle.marking.specs.MarkLines.{markLines}
-use Rattle.step.specs.States.{State, textIn, bufferLimit, opening}
+use Rattle.loading.specs.States.{State, textIn, bufferLimit, opening}
 use Rattle.step.specs.Steps.{lentTo, step}
 use Rattle.script.specs.Scripts.{output}
 

@@ -1,8 +1,8 @@
 // Lines of output, one behind the other. They are kept, or only counted.
 use crate::Went;
+use loading::Script;
 use marking::print_mark;
 use printing::print_text;
-use step::Script;
 ghost use mathlib.Core.Bool.{cond};
 ghost use mathlib.Core.List.{List, [], _++_};
 ghost use mathlib.Core.Path.{_≡_};
@@ -11,7 +11,7 @@ ghost use lib.ListN.{length};
 ghost use lib.Seq.{paste};
 ghost use Rattle.marking.specs.FlatMarks.{marksIn};
 ghost use Rattle.marking.specs.MarkLines.{markLines};
-ghost use Rattle.step.specs.States.{stateOf};
+ghost use Rattle.loading.specs.States.{stateOf};
 ghost use Rattle.step.specs.Steps.{ending};
 ghost use Rattle.step.specs.Calls.{Ready};
 ghost use Rattle.script.specs.Courses.{Going, Goes};

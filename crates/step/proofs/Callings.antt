@@ -16,7 +16,7 @@ use Rattle.hex.proofs.Zeros.{zero-byte, hexed-zero}
 use Rattle.frame.specs.Format.{edit, frameBytes}
 use Rattle.printing.specs.Prints.{printedAs}
 use Rattle.marking.proofs.Orders.{applied-same}
-use Rattle.step.specs.States.{State}
+use Rattle.loading.specs.States.{State}
 use Rattle.step.specs.Steps.{lentTo, carried, answered, ran, ordered, edited}
 use Rattle.step.proofs.Framing.{core}
 

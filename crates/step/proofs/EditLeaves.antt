@@ -36,10 +36,11 @@ use Rattle.marking.specs.Carries.{carriedMark}
 use Rattle.marking.specs.InOrder.{inOrder}
 use Rattle.marking.proofs.FlatMarks.{length-marks, count-marks}
 use Rattle.marking.proofs.Orders.{in-order}
-use Rattle.step.specs.declared.Script.{Script}
-use Rattle.step.specs.declared.Progress.{Progress}
-use Rattle.step.specs.States.{State, bufferLimit, stateOf}
-use Rattle.step.specs.Steps.{refuses, lentTo, carried, answered, ran, edited, framed}
+use Rattle.loading.specs.declared.Script.{Script}
+use Rattle.loading.specs.declared.Progress.{Progress}
+use Rattle.loading.specs.States.{State, bufferLimit, stateOf}
+use Rattle.loading.specs.Loads.{refuses, framedBy}
+use Rattle.step.specs.Steps.{lentTo, carried, answered, ran, edited, framed}
 use Rattle.step.specs.Calls.{Ready, Left, left, leaves, carriedIn, inverseIn}
 use Rattle.step.proofs.Framing.{core}
 use Rattle.step.proofs.Callings.{beside}
@@ -218,12 +219,12 @@ module _ (c : Script) (t m : List ℕ) (h : Ready c t m) (p : Paper Frame) where
   pub edit-leaves : (e : Edit) (x : List ℕ) (n : ℕ) (f : List ℕ) (i : ℕ) (g : List ℕ) (j : ℕ) → Held p e x n f i g j → (y : Left) (o : List ℕ)
       → y ≡ leaves (edited (stateOf c t m) (whole e (take (n - 0) (drop 0 x)) (take (i - 0) (drop 0 f)) (take (j - 0) (drop 0 g)))) m o
       → y ≡ leaves (framed (stateOf c t m) p) m o
-  unfolding framed
+  unfolding framedBy
   edit-leaves e x n f i g j q y o z = rw (q .3) (rw (front x n, front f i, front g j) at z)
 
   pub line-leaves : (n k : ℕ) → p ≡ refused n k → (r : Progress) (o u : List ℕ) → (r .script ≡ c) × (r .printed ≡ 3) × (u ≡ over (printedAs (n ∷ [])) o)
       → left r t m u ≡ leaves (framed (stateOf c t m) p) m o
-  unfolding framed
+  unfolding framedBy
   line-leaves n k q r o u z = rw q (refusal-leaves c t m h r n o u z)
 
 pub zeros-long : (n : ℕ) → n ≤ length {A = ℕ} (replicate n 0)

@@ -3,8 +3,6 @@ pub mod Callings
 pub mod TextLines
 pub mod Admitted
 pub mod Readies
-pub mod Loading
-pub mod TextFrames
 pub mod Shifts
 pub mod EditLeaves
 pub mod Stepping

@@ -44,9 +44,10 @@ use Rattle.printing.specs.Prints.{printedAs}
 use Rattle.printing.proofs.Printed.{printed-length}
 use Rattle.marking.specs.FlatMarks.{flatMark, flatMarks, marksIn}
 use Rattle.marking.proofs.FlatMarks.{length-mark, length-marks, flat-append, count-marks, marks-over}
-use Rattle.step.specs.declared.Script.{Script}
-use Rattle.step.specs.States.{State, state, textIn, bufferLimit, opening, stateOf, scriptOf}
-use Rattle.step.specs.Steps.{Stepped, stepped, refuses, loaded, lentTo, carried, answered, ran, ordered, framed, sees, step}
+use Rattle.loading.specs.declared.Script.{Script}
+use Rattle.loading.specs.States.{State, state, textIn, bufferLimit, opening, stateOf, scriptOf}
+use Rattle.loading.specs.Loads.{Stepped, stepped, refuses, loaded, framedBy}
+use Rattle.step.specs.Steps.{lentTo, carried, answered, ran, ordered, framed, sees, step}
 use Rattle.step.specs.Calls.{Ready}
 use Rattle.step.proofs.Framing.{core}
 use Rattle.step.proofs.Callings.{once}
@@ -196,18 +197,18 @@ ready-seen c p t m e h = record { admitted = h .admitted; small = h .small; room
 
 module _ (c : Script) (t m : List ℕ) (h : Ready c t m) where
   read-text : (r : Contents) → Onward (framed (stateOf c t m) (textOf r)) m
-  unfolding framed textOf
+  unfolding framedBy textOf
   read-text (chars xs) = ready-loaded c t m h (flatten xs)
   read-text (badFrom k) = ready-refused c t m h 5
 
   read-edit : (e : Edit) (f g : List ℕ) (r : Contents) → Onward (framed (stateOf c t m) (editOf e f g r)) m
-  unfolding framed editOf
+  unfolding framedBy editOf
   read-edit e f g (chars xs) = ready-ran c t m h (ordered (whole e (flatten xs) (firstList e xs f) g))
   read-edit e f g (badFrom k) = ready-refused c t m h 5
 
 module _ (c : Script) (t m l : List ℕ) (h : Ready c t m) where
   onward : (g : Form) → judged (c .place) (textIn (stateOf c t m)) l ≡ g → Onward (framed (sees (stateOf c t m) (seen (c .place) g)) (readForm g)) m
-  unfolding framed readForm seen
+  unfolding framedBy readForm seen
   onward malformed e = ready-refused c t m h 10
   onward (text u) e = let p = seen (c .place) (text u) in read-text (record { view = c .view; place = p }) t m (ready-seen c p t m refl h) (contents 1 (u ∷ []))
   onward (mark k) e = ready-mark c t m h k (seen (c .place) (mark k)) refl (mark-few (c .place) (textIn (stateOf c t m)) (lineForm l) k e)

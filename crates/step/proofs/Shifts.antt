@@ -15,7 +15,7 @@ use Rattle.shift.specs.Answers.{Followed, to, dropped}
 use Rattle.shift.specs.Call.{orderedOk}
 use Rattle.shift.proofs.Carrying.{kept-carries}
 use Rattle.marking.specs.Carries.{carriedMark}
-use Rattle.step.specs.States.{State, textIn}
+use Rattle.loading.specs.States.{State, textIn}
 use Rattle.step.specs.Steps.{lentTo, carried}
 
 -- an edit that rows 1 to 4 do not refuse, with its ends in order, carries marks as the worker does

@@ -13,6 +13,7 @@ use Rattle.text.specs.Rows.{at}
 use Rattle.text.specs.Text.{allAdmissible}
 use Rattle.hex.specs.Digits.{hexed}
 use Rattle.edit.specs.declared.Edit.{Edit}
+use Rattle.edit.specs.Edits.{Whole}
 use Rattle.select.specs.declared.Sel.{Sel}
 use Rattle.shift.specs.Answers.{Followed, to}
 use Rattle.frame.specs.declared.Head.{Head}
@@ -25,11 +26,13 @@ use Rattle.place.specs.Places.{judged, seen}
 use Rattle.place.proofs.InPlace.{in-place, mark-few, edit-seen}
 use Rattle.printing.specs.Prints.{printedAs}
 use Rattle.marking.specs.FlatMarks.{flatMark, flatMarks}
-use Rattle.step.specs.declared.Script.{Script}
-use Rattle.step.specs.declared.Progress.{Progress}
-use Rattle.step.specs.States.{State, state, stateOf, textIn, scriptOf}
-use Rattle.step.specs.Steps.{Stepped, stepped, refuses, loaded, framed, sees, step}
-use Rattle.step.specs.Calls.{Ready, Left, left, leaves, stepLeaves, Part, part, partOf}
+use Rattle.loading.specs.declared.Script.{Script}
+use Rattle.loading.specs.declared.Progress.{Progress}
+use Rattle.loading.specs.States.{State, state, stateOf, textIn, scriptOf}
+use Rattle.loading.specs.Loads.{Stepped, stepped, refuses, loaded, framedBy}
+use Rattle.step.specs.Steps.{edited, framed, sees, step}
+use Rattle.loading.specs.Calls.{Part, part, partOf}
+use Rattle.step.specs.Calls.{Ready, Left, left, leaves, stepLeaves}
 use Rattle.step.proofs.Readies.{ready-step, printed-short, ready-seen, mark-kept}
 
 never : {A : Type 0} → _≡_ {A = ℕ} 0 1 → A
@@ -48,7 +51,7 @@ loaded-marks s cs = go (not (allAdmissible cs)) (ltb (length (s .buffer)) (lengt
     go false false = refl
 
 read-marks : (s : State) (x : Contents) → framed s (textOf x) .state .marks ≡ s .marks
-unfolding framed textOf
+unfolding framedBy textOf
 read-marks s (chars xs) = loaded-marks s (flatten xs)
 read-marks s (badFrom k) = refl
 
@@ -114,18 +117,18 @@ module _ (c : Script) (t m l : List ℕ) (ready : Ready c t m) (h : Head) (e : h
   module _ (r : Progress) (o : List ℕ) where
     pub malformed-left : (z : List ℕ) → h ≡ asHead.Malformed → r .script ≡ next → r .printed ≡ 3 → z ≡ over (printedAs (10 ∷ [])) o
         → left r t m z ≡ stepLeaves c l t m o
-    unfolding framed readForm hexed
+    unfolding framedBy readForm hexed
     malformed-left z k a b d =
         let f = malformed-by-head g (told ∙ k) in
         rw (stepped-as, f, a, b, d, ready .hold)
 
     pub text-left : (u z : List ℕ) → h ≡ asHead.Text
-        → ((ms : List (Followed Sel)) → part r u z ≡ partOf (framed (state (c .view) t q ms) (frameRead l)) o)
+        → ((ms : List (Followed Sel)) (f : Whole ℕ → Stepped) → part r u z ≡ partOf (framedBy f (state (c .view) t q ms) (frameRead l)) o)
         → left r u m z ≡ stepLeaves c l t m o
     text-left u z k a =
         let n : h ≡ asHead.Malformed → ⊥ = λ w. never cc in
         let x = stepped-read n in
-        let d = a (s .marks) in
+        let d = a (s .marks) (edited (sees s q)) in
         let w : step s l .state .marks ≡ s .marks = rw x (text-marks (sees s q) (lineForm l) (line-head n ∙ k)) in
         let i : r .script ≡ scriptOf (step s l .state) = rw x (ap (λ (y : Part). y .script) d) in
         let j : r .printed ≡ length (step s l .printed) = rw x (ap (λ (y : Part). y .printed) d) in
@@ -135,7 +138,7 @@ module _ (c : Script) (t m l : List ℕ) (ready : Ready c t m) (h : Head) (e : h
 
     pub mark-left : (k : Sel) → h ≡ asHead.Mark k → (y : List ℕ) → r .script ≡ next → r .printed ≡ 0 → y ≡ paste m ((q .marks - 1) * 5) (flatMark (to k)) 5
         → left r t y o ≡ stepLeaves c l t m o
-    unfolding framed readForm seen
+    unfolding framedBy readForm seen
     mark-left k i y a b d =
         let f = mark-seen k i in
         let w = mark-few (c .place) (textIn s) (lineForm l) k (f .0) in

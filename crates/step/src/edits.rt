@@ -1,7 +1,4 @@
 // Edit frames.
-use crate::Progress;
-use crate::Script;
-use crate::refusing::refuse;
 use apply::apply_judged;
 use edit::Answer;
 use edit::Applied;
@@ -10,6 +7,9 @@ use edit::Refusal;
 use edit::Verdict;
 use frame::BYTE_LIMIT;
 use given::judge_admitted;
+use loading::Progress;
+use loading::Script;
+use loading::refuse;
 use marking::carry_copy;
 use marking::in_order;
 use place::Place;
@@ -35,7 +35,7 @@ ghost use Rattle.frame.specs.Forms.{headOf, lineForm};
 ghost use Rattle.frame.specs.Reads.{frameRead};
 ghost use Rattle.frame.specs.Inverses.{HasLine};
 ghost use Rattle.printing.specs.Prints.{printedAs};
-ghost use Rattle.step.specs.States.{stateOf};
+ghost use Rattle.loading.specs.States.{stateOf};
 ghost use Rattle.step.specs.Steps.{lentTo, ran, edited, framed};
 ghost use Rattle.step.specs.Calls.{Ready, left, leaves, carriedIn, inverseIn};
 

@@ -1,8 +1,8 @@
 use borrow.Author.Needs.{needs}
-use Rattle.step.proofs.TextFrames.{told}
-use Rattle.step.proofs.Loading.{text-framed, refused-framed}
-use Rattle.step.proofs.loads.step_text.Statement.{statement}
-use Rattle.step.proofs.loads.step_text.Tie as tie
+use Rattle.loading.proofs.TextFrames.{told}
+use Rattle.loading.proofs.Loading.{text-framed, refused-framed}
+use Rattle.loading.proofs.loads.step_text.Statement.{statement}
+use Rattle.loading.proofs.loads.step_text.Tie as tie
 
 slice-aggregate-read : tie.Need-slice-aggregate-read
 slice-aggregate-read c = search needs
@@ -56,25 +56,25 @@ same-length-2 : tie.Need-same-length-2
 same-length-2 c = search needs
 
 returns : tie.Need-returns
-returns c = λ ms. text-framed (c .before .before .before .before .before .before .before .before .before .before .before .before .before .before .before .before .before .before .before .before .before .before .args .script) _ _ ms _ _ _ _ _ (told _ _ _ (search needs) _ _ _ _ _ _ (c .before .before .before .before .before .before .before .before .before .before .before .before .before .before .before .before .before .before .before .before .before .before .pre .1) (c .before .before .before .before .before .before .before .before .before .before .before .before .before .before .before .read .ensures) (c .before .before .before .before .before .before .before .before .before .before .frame .given .1) .1) (c .before .before .before .before .load .ensures ms)
+returns c = λ ms f. text-framed (c .before .before .before .before .before .before .before .before .before .before .before .before .before .before .before .before .before .before .before .before .before .before .args .script) _ _ ms f _ _ _ _ _ (told _ _ _ (search needs) _ _ _ _ _ _ (c .before .before .before .before .before .before .before .before .before .before .before .before .before .before .before .before .before .before .before .before .before .before .pre .1) (c .before .before .before .before .before .before .before .before .before .before .before .before .before .before .before .read .ensures) (c .before .before .before .before .before .before .before .before .before .before .frame .given .1) .1) (c .before .before .before .before .load .ensures ms)
 
 same-length-3 : tie.Need-same-length-3
 same-length-3 c = search needs
 
 returns-2 : tie.Need-returns-2
-returns-2 c = λ ms. refused-framed (c .before .before .before .before .before .before .before .before .before .before .before .before .before .before .before .before .before .args .script) _ _ ms _ _ _ _ _ (told _ _ _ (search needs) _ _ _ _ _ _ (c .before .before .before .before .before .before .before .before .before .before .before .before .before .before .before .before .before .pre .1) (c .before .before .before .before .before .before .before .before .before .before .read .ensures) (c .before .before .before .before .before .frame2 .given .1)) (c .before .before .refuse .ensures)
+returns-2 c = λ ms f. refused-framed (c .before .before .before .before .before .before .before .before .before .before .before .before .before .before .before .before .before .args .script) _ _ ms f _ _ _ _ _ (told _ _ _ (search needs) _ _ _ _ _ _ (c .before .before .before .before .before .before .before .before .before .before .before .before .before .before .before .before .before .pre .1) (c .before .before .before .before .before .before .before .before .before .before .read .ensures) (c .before .before .before .before .before .frame2 .given .1)) (c .before .before .refuse .ensures)
 
 same-length-4 : tie.Need-same-length-4
 same-length-4 c = search needs
 
 returns-3 : tie.Need-returns-3
-returns-3 c = λ ms. absurd (told _ _ _ (search needs) _ _ _ _ _ _ (c .before .before .before .before .before .before .before .before .before .before .before .before .before .before .before .before .pre .1) (c .before .before .before .before .before .before .before .before .before .read .ensures) (c .before .before .before .before .enum-told .given .1))
+returns-3 c = λ ms f. absurd (told _ _ _ (search needs) _ _ _ _ _ _ (c .before .before .before .before .before .before .before .before .before .before .before .before .before .before .before .before .pre .1) (c .before .before .before .before .before .before .before .before .before .read .ensures) (c .before .before .before .before .enum-told .given .1))
 
 same-length-5 : tie.Need-same-length-5
 same-length-5 c = search needs
 
 returns-4 : tie.Need-returns-4
-returns-4 c = λ ms. absurd (told _ _ _ (search needs) _ _ _ _ _ _ (c .before .before .before .before .before .before .before .before .before .before .before .before .before .before .before .before .pre .1) (c .before .before .before .before .before .before .before .before .before .read .ensures) (c .before .before .before .before .enum-told2 .given .1))
+returns-4 c = λ ms f. absurd (told _ _ _ (search needs) _ _ _ _ _ _ (c .before .before .before .before .before .before .before .before .before .before .before .before .before .before .before .before .pre .1) (c .before .before .before .before .before .before .before .before .before .read .ensures) (c .before .before .before .before .enum-told2 .given .1))
 
 pub step-text-spec : {M : Type 1} → statement M
 step-text-spec =

@@ -1,7 +1,7 @@
 use mathlib.Core.Path.{refl}
 use borrow.Author.Needs.{needs}
-use Rattle.step.proofs.refusing.refuse.Statement.{statement}
-use Rattle.step.proofs.refusing.refuse.Tie as tie
+use Rattle.loading.proofs.refusing.refuse.Statement.{statement}
+use Rattle.loading.proofs.refusing.refuse.Tie as tie
 
 refusal-byte-requires : tie.Need-refusal-byte-requires
 refusal-byte-requires c κs = search needs

@@ -12,16 +12,17 @@ use Rattle.text.specs.Rows.{at}
 use Rattle.text.specs.Text.{allAdmissible}
 use Rattle.splice.proofs.Overs.{paste-over}
 use Rattle.edit.specs.declared.View.{View}
+use Rattle.edit.specs.Edits.{Whole}
 use Rattle.select.specs.declared.Sel.{Sel}
 use Rattle.shift.specs.Answers.{Followed}
 use Rattle.hex.specs.Digits.{hexed}
 use Rattle.frame.specs.Format.{Frame, text}
 use Rattle.printing.specs.Prints.{printedAs}
-use Rattle.step.specs.declared.Script.{Script}
-use Rattle.step.specs.declared.Progress.{Progress}
-use Rattle.step.specs.States.{State, state}
-use Rattle.step.specs.Steps.{refuses, loaded, framed}
-use Rattle.step.specs.Calls.{part, partOf}
+use Rattle.loading.specs.declared.Script.{Script}
+use Rattle.loading.specs.declared.Progress.{Progress}
+use Rattle.loading.specs.States.{State, state}
+use Rattle.loading.specs.Loads.{Stepped, refuses, loaded, framedBy}
+use Rattle.loading.specs.Calls.{part, partOf}
 
 -- what `refuse` leaves
 abbrev pub Refuses : Script → Progress → ℕ → List ℕ → List ℕ → Type 0
@@ -51,11 +52,11 @@ module _ (c : Script) (t out : List ℕ) (ms : List (Followed Sel)) where
       load-whole u v h p q = rw (← a, n, le-ltb (length t) (length cs) h, p, paste-over, q)
 
   -- a line that is read as p
-  module _ (p : Paper Frame) where
-    pub text-framed : (r : Progress) (cs u o : List ℕ) → p ≡ done (text cs) → part r u o ≡ partOf (loaded before cs) out → part r u o ≡ partOf (framed before p) out
-    unfolding framed
+  module _ (f : Whole ℕ → Stepped) (p : Paper Frame) where
+    pub text-framed : (r : Progress) (cs u o : List ℕ) → p ≡ done (text cs) → part r u o ≡ partOf (loaded before cs) out → part r u o ≡ partOf (framedBy f before p) out
+    unfolding framedBy
     text-framed r cs u o e h = rw e h
 
-    pub refused-framed : (r : Progress) (n k : ℕ) (o : List ℕ) → p ≡ refused n k → Refuses c r n out o → part r t o ≡ partOf (framed before p) out
-    unfolding framed
+    pub refused-framed : (r : Progress) (n k : ℕ) (o : List ℕ) → p ≡ refused n k → Refuses c r n out o → part r t o ≡ partOf (framedBy f before p) out
+    unfolding framedBy
     refused-framed r n k o e h = rw e (refused-part r n o h)

@@ -4,8 +4,8 @@ use borrow.Author.Needs.{needs}
 use Rattle.shift.specs.Answers.{to}
 use Rattle.marking.specs.FlatMarks.{flatMark}
 use Rattle.marking.proofs.FlatMarks.{length-mark, five-pasted}
-use Rattle.step.proofs.keeping.keep_mark.Statement.{statement}
-use Rattle.step.proofs.keeping.keep_mark.Tie as tie
+use Rattle.loading.proofs.keeping.keep_mark.Statement.{statement}
+use Rattle.loading.proofs.keeping.keep_mark.Tie as tie
 
 sub-at : tie.Need-sub-at
 sub-at c = search needs

@@ -14,16 +14,17 @@ use text::Row;
 use text::all_admissible;
 ghost use mathlib.Core.List.{List};
 ghost use mathlib.Core.Path.{_≡_};
-ghost use Prim.Native.Nat.{_≤_};
+ghost use Prim.Native.Nat.{ℕ, _≤_};
 ghost use lib.ListN.{length};
+ghost use Rattle.edit.specs.Edits.{Whole};
 ghost use Rattle.select.specs.declared.Sel.{Sel};
 ghost use Rattle.shift.specs.Answers.{Followed};
 ghost use Rattle.frame.specs.declared.Head.the-variants as asHead;
 ghost use Rattle.frame.specs.Forms.{headOf, lineForm};
 ghost use Rattle.frame.specs.Reads.{frameRead};
-ghost use Rattle.step.specs.States.{state};
-ghost use Rattle.step.specs.Steps.{loaded, framed};
-ghost use Rattle.step.specs.Calls.{part, partOf};
+ghost use Rattle.loading.specs.States.{state};
+ghost use Rattle.loading.specs.Loads.{Stepped, loaded, framedBy};
+ghost use Rattle.loading.specs.Calls.{part, partOf};
 
 fn load(script: Script, chars: &[u32], text: &mut [u32], out: &mut [u8]) -> Progress
     requires { ⌜ 3 ≤ length (now out) ⌝ }
@@ -54,7 +55,7 @@ fn load(script: Script, chars: &[u32], text: &mut [u32], out: &mut [u8]) -> Prog
 // A line that is a text frame in its place.
 pub fn step_text(script: Script, line: &[u8], text: &mut [u32], out: &mut [u8]) -> Progress
     requires { ⌜ (3 ≤ length (now out)) × (headOf (lineForm (now line)) ≡ asHead.Text) ⌝ }
-    ensures { λ r. ⌜ ((ms : List (Followed Sel)) → part r (now (text .exit)) (now (out .exit)) ≡ partOf (framed (state (script .view) (now (text .entry)) (script .place) ms) (frameRead (now (line .entry)))) (now (out .entry))) ⌝ }
+    ensures { λ r. ⌜ ((ms : List (Followed Sel)) (f : Whole ℕ → Stepped) → part r (now (text .exit)) (now (out .exit)) ≡ partOf (framedBy f (state (script .view) (now (text .entry)) (script .place) ms) (frameRead (now (line .entry)))) (now (out .entry))) ⌝ }
 {
     let mut payload = [0u32; BYTE_LIMIT];
     let mut first = [0u32; 1];

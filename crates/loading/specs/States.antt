@@ -9,7 +9,7 @@ use Rattle.select.specs.declared.Sel.{Sel}
 use Rattle.shift.specs.Answers.{Followed}
 use Rattle.place.specs.declared.Place.{Place}
 use Rattle.marking.specs.FlatMarks.{marksIn}
-use Rattle.step.specs.declared.Script.{Script}
+use Rattle.loading.specs.declared.Script.{Script}
 
 -- the view and the buffer of its text, what has been seen, and the marks in the order read
 pub record State : Type 0 where

@@ -1,7 +1,7 @@
 use borrow.Author.Needs.{needs}
-use Rattle.step.proofs.Loading.{load-bad, load-long, load-whole}
-use Rattle.step.proofs.loads.load.Statement.{statement}
-use Rattle.step.proofs.loads.load.Tie as tie
+use Rattle.loading.proofs.Loading.{load-bad, load-long, load-whole}
+use Rattle.loading.proofs.loads.load.Statement.{statement}
+use Rattle.loading.proofs.loads.load.Tie as tie
 
 all-admissible-requires : tie.Need-all-admissible-requires
 all-admissible-requires c κs = search needs
