@@ -1,7 +1,7 @@
 -- The line of an accepted edit: 00 and the frame of its inverse.
 use mathlib.Core.Path.{_≡_, refl, sym, ap, _∙_}
 use mathlib.Core.List.{List, [], _∷_, _++_}
-use Prim.Native.Nat.{ℕ, _+_, _-_, _≤_, _<_}
+use Prim.Native.Nat.{ℕ, _+_, _-_, _≤_}
 use native.Mathlib.Omega.{arith}
 use lib.ListN.{length, take, drop, set, length-append, length-drop}
 use lib.Seq.{drop-drop, take-length}
@@ -58,12 +58,6 @@ module _ (f : Frame) (o t y : List ℕ) (h : 36_867 ≤ length o) (line : HasLin
         let z : take 2 t ≡ 48 ∷ 48 ∷ [] = ap (take 2) zeros in
         let k : length (48 ∷ 48 ∷ digits) ≡ 2 + length digits = omega arith in
         part-pasted t digits y 2 g ∙ rw (z, take-length digits, ← k)
-
-    pub line-room : n ≤ 36_864
-    line-room = omega (arith, count, few)
-
-    pub line-fits : n + 2 < length b
-    line-fits = rw (behind, length-append, length-drop) (omega (arith, count, few, long))
 
     pub line-printed : (r : ℕ) (u : List ℕ) → r ≡ n + 2 + 1 → u ≡ set b (n + 2) 10
         → (u ≡ over (printedAs (0 ∷ frameBytes f)) o) × (r ≡ length (printedAs (0 ∷ frameBytes f)))

@@ -1,8 +1,8 @@
-use native.Mathlib.Omega.{arith}
 use borrow.Author.Needs.{needs}
 use Rattle.edit.specs.Edits.{whole}
 use Rattle.frame.specs.Format.{edit as editFrame}
-use Rattle.printing.proofs.InverseLine.{line-room, line-fits, line-printed, line-refused}
+use Rattle.printing.proofs.WrittenLines.{digits-few}
+use Rattle.printing.proofs.InverseLine.{line-printed, line-refused}
 use Rattle.printing.proofs.print_inverse.Statement.{statement}
 use Rattle.printing.proofs.print_inverse.Tie as tie
 
@@ -25,10 +25,10 @@ enum-known-written : tie.Need-enum-known-written
 enum-known-written c = search needs
 
 add-end-line : tie.Need-add-end-line
-add-end-line c = let a = c .before .before .before .before .before .before .before .before .before .before .before .before .before .before .before .args in omega (arith, line-room (editFrame (whole (a .inverse) (a .payload .now) (a .first .now) (a .second .now))) (a .out .now) _ _ (c .before .before .before .before .before .before .before .before .before .before .before .before .before .before .before .pre .0) (c .before .before .before .before .before .before .before .before .before .before .before .before .before .before .before .pre .1) (c .before .before .before .before .before .before .before .before .before .print-byte .ensures) (c .before .written .given .0 .0) (rw (c .before .written .given .1) at (c .before .before .before .before .before .write-edit .ensures)))
+add-end-line c = let k = digits-few _ _ _ (c .before .before .before .before .before .write-edit .result) _ (c .before .before .before .before .before .write-edit .ensures) (c .before .written .given .1) in search needs
 
 end-line-requires : tie.Need-end-line-requires
-end-line-requires c κs = let a = c .before .before .before .before .before .before .before .before .before .before .before .before .before .before .before .before .args in line-fits (editFrame (whole (a .inverse) (a .payload .now) (a .first .now) (a .second .now))) (a .out .now) _ _ (c .before .before .before .before .before .before .before .before .before .before .before .before .before .before .before .before .pre .0) (c .before .before .before .before .before .before .before .before .before .before .before .before .before .before .before .before .pre .1) (c .before .before .before .before .before .before .before .before .before .before .print-byte .ensures) (c .before .before .written .given .0 .0) (rw (c .before .before .written .given .1) at (c .before .before .before .before .before .before .write-edit .ensures))
+end-line-requires c κs = let k = digits-few _ _ _ (c .before .before .before .before .before .before .write-edit .result) _ (c .before .before .before .before .before .before .write-edit .ensures) (c .before .before .written .given .1) in search needs
 
 enum-told : tie.Need-enum-told
 enum-told c = search needs

@@ -1,6 +1,6 @@
 use mathlib.Core.Path.{_∙_}
 use borrow.Author.Needs.{needs}
-use Rattle.printing.proofs.WrittenLines.{line-fits, wrote-within, wrote-line, wrote-never}
+use Rattle.printing.proofs.WrittenLines.{digits-few, line-fits, wrote-line, wrote-never}
 use Rattle.printing.proofs.print_text.Statement.{statement}
 use Rattle.printing.proofs.print_text.Tie as tie
 
@@ -11,7 +11,7 @@ enum-known-written : tie.Need-enum-known-written
 enum-known-written c = search needs
 
 end-line-requires : tie.Need-end-line-requires
-end-line-requires c κs = let p = c .before .before .before .before .before .before .before .before .before .before .pre in wrote-within _ (p .1) _ _ _ (line-fits _ (p .1) _ (p .0)) (c .before .before .before .before .before .before .write-text .ensures) _ (c .before .before .written .given .1) (search needs)
+end-line-requires c κs = let k = digits-few _ _ _ (c .before .before .before .before .before .before .write-text .result) _ (c .before .before .before .before .before .before .write-text .ensures) (c .before .before .written .given .1) in search needs
 
 enum-told : tie.Need-enum-told
 enum-told c = search needs
