@@ -6,3 +6,4 @@ pub mod Readies
 pub mod Shifts
 pub mod EditLeaves
 pub mod Stepping
+pub mod Theorems
