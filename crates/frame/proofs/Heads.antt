@@ -12,6 +12,7 @@ use Rattle.text.specs.declared.Position.{Position}
 use Rattle.text.specs.Text.{all}
 use Rattle.edit.specs.declared.Edit.{Edit}
 use Rattle.edit.specs.declared.Edit.the-variants.{InsertChar, InsertStr, DeleteRange, JoinLines, SplitLines, Replace, InsertBlock, DeleteBlockChunks}
+use Rattle.select.specs.declared.Sel.{Sel}
 use Rattle.frame.specs.declared.Head.{Head}
 use Rattle.frame.specs.Numbers.{positionIn}
 use Rattle.frame.specs.Forms.{Form, malformed, text, mark, edit, plain, Cut, broken, cut, markForm, insertForm, kindForm, deleteForm, joinForm, columnsIn, flagsIn, flagged, splitForm, replaceForm, stringsIn, blockOf, blockForm, widthsIn, padsIn, chunksForm, formBy, formOf, headOf}
@@ -121,3 +122,18 @@ form-by-head b h e = subst (Said b (formOf b)) e (told b)
 
 pub form-by-edit : (b : List ℕ) (e e′ : Edit) → headOf (formOf b) ≡ asHead.Edit e → e ≡ e′ → Said b (formOf b) (asHead.Edit e′)
 form-by-edit b e e′ h q = form-by-head b (asHead.Edit e′) (h ∙ ap asHead.Edit q)
+
+-- the form that has the head of a malformed line, and of a mark
+pub malformed-by-head : (g : Form) → headOf g ≡ asHead.Malformed → g ≡ malformed
+unfolding headOf
+malformed-by-head malformed e = refl
+malformed-by-head (text s) e = let z : _≡_ {A = ℕ} 0 1 = cc in absurd (omega arith)
+malformed-by-head (mark m) e = let z : _≡_ {A = ℕ} 0 1 = cc in absurd (omega arith)
+malformed-by-head (edit d at ks f s) e = let z : _≡_ {A = ℕ} 0 1 = cc in absurd (omega arith)
+
+pub mark-by-head : (g : Form) (k : Sel) → headOf g ≡ asHead.Mark k → g ≡ mark k
+unfolding headOf
+mark-by-head malformed k e = let z : _≡_ {A = ℕ} 0 1 = cc in absurd (omega arith)
+mark-by-head (text s) k e = let z : _≡_ {A = ℕ} 0 1 = cc in absurd (omega arith)
+mark-by-head (mark m) k e = let q : m ≡ k = cc in ap mark q
+mark-by-head (edit d at ks f s) k e = let z : _≡_ {A = ℕ} 0 1 = cc in absurd (omega arith)

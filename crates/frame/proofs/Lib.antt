@@ -3,6 +3,7 @@ pub mod Items
 pub mod Strings
 pub mod Answers
 pub mod Heads
+pub mod LineForms
 pub mod Formed
 pub mod RoundNumbers
 pub mod RoundItems

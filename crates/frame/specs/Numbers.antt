@@ -1,7 +1,7 @@
 -- "Numbers are four bytes, high first."
 use mathlib.Core.List.{List, [], _∷_, _++_}
 use Prim.Native.Nat.{ℕ, zero, suc, _+_, _*_, _/_, _%_}
-use lib.ListN.{length, drop, getD}
+use lib.ListN.{drop, getD}
 use Rattle.text.specs.declared.Position.{Position}
 use Rattle.text.specs.Rows.{at}
 

@@ -22,12 +22,15 @@ use Rattle.frame.specs.Format.{editBytes, frameBytes}
 use Rattle.frame.specs.Forms.{markForm, insertForm, formBy, lineForm}
 use Rattle.frame.specs.Reads.{ahead, contents, firstList, textOf, editOf, readForm}
 use Rattle.place.specs.Places.{placed, seen}
-use Rattle.step.specs.Steps.{loaded, inOrder, carried, answered, ran, framed, step, markLine, markLines, ending}
+use Rattle.marking.specs.InOrder.{inOrder}
+use Rattle.marking.specs.MarkLines.{markLine, markLines}
+use Rattle.loading.specs.Loads.{loaded, framedBy}
+use Rattle.step.specs.Steps.{carried, answered, ran, step, ending}
 use Rattle.script.specs.Scripts.{lineStep, run}
 use Rattle.marked.specs.Marked.{Marked}
 
 pub marked : Marked
-unfolding begins taken number octets prepend readFrom writing _⊕_ onto lines unlines rowCount lastRow rowLen rowStart clamp offset endOf inText admissible all textOk renewed scalar flatten inserted charsDeleted lineFrom lineTo linesDeleted replaced gap joinRow joinCols joinFlags put putAll padsOf pieces cutAll chunksOf anyFlag joined unspace splitFirst splitRow split blockInserted chunksDeleted rangeDeleted editedBy sum smallRange smallOk fewRows fewOk payloadOk withinFirst withinAll withinOk roomOk recordOk wide firstOf resultOf leaves applied rangeUndoable isUndoable undoable flat sels insert sorted collapsed collapse mergeLeaves mergedIn gapLen afterInsert afterDeleteChar startCols afterJoin shifted orderedRange orderedOk positionShifted selShifted isDigit valueOf digitOf hexed unhexed paired numberIn editBytes frameBytes markForm insertForm formBy lineForm ahead contents firstList textOf editOf readForm placed seen loaded inOrder carried answered ran framed step markLine markLines ending lineStep run
+unfolding begins taken number octets prepend readFrom writing _⊕_ onto lines unlines rowCount lastRow rowLen rowStart clamp offset endOf inText admissible all textOk renewed scalar flatten inserted charsDeleted lineFrom lineTo linesDeleted replaced gap joinRow joinCols joinFlags put putAll padsOf pieces cutAll chunksOf anyFlag joined unspace splitFirst splitRow split blockInserted chunksDeleted rangeDeleted editedBy sum smallRange smallOk fewRows fewOk payloadOk withinFirst withinAll withinOk roomOk recordOk wide firstOf resultOf leaves applied rangeUndoable isUndoable undoable flat sels insert sorted collapsed collapse mergeLeaves mergedIn gapLen afterInsert afterDeleteChar startCols afterJoin shifted orderedRange orderedOk positionShifted selShifted isDigit valueOf digitOf hexed unhexed paired numberIn editBytes frameBytes markForm insertForm formBy lineForm ahead contents firstList textOf editOf readForm placed seen loaded inOrder carried answered ran framedBy step markLine markLines ending lineStep run
 marked = record {
   one = refl;
   two = refl;

@@ -1,18 +1,15 @@
 -- What is seen and judged, by a form's head alone.
 use mathlib.Core.Path.{_≡_, refl, sym, ap, _∙_}
-use mathlib.Core.Bool.{Bool, true, false, cond, not, _&&_}
+use mathlib.Core.Bool.{Bool, true, false, cond}
 use mathlib.Core.List.{List}
 use Prim.Native.Nat.{ℕ, _+_}
 use native.Mathlib.Numerals.{add-one}
-use lib.Dec.{ltb}
-use Rattle.text.specs.Rows.{inText}
-use Rattle.text.specs.Text.{isLF}
 use Rattle.select.specs.declared.Sel.{Sel}
 use Rattle.frame.specs.declared.Head.{Head}
 use Rattle.frame.specs.declared.Head.the-variants as asHead
 use Rattle.frame.specs.Forms.{Form, malformed, text, mark, edit, headOf}
 use Rattle.place.specs.declared.Place.{Place}
-use Rattle.place.specs.Places.{markLimit, placed, seen}
+use Rattle.place.specs.Places.{markOk, placed, seen}
 
 abbrev seenAs : Place → Head → Place
 seenAs p asHead.Malformed = p
@@ -31,13 +28,10 @@ seen-as p (edit e at ks f s) = refl
 pub seen-told : (p : Place) (h k : Head) → h ≡ k → (g : Form) → headOf g ≡ h → seenAs p k ≡ seen p g
 seen-told p h k e g f = ap (seenAs p) (sym (f ∙ e)) ∙ seen-as p g
 
-abbrev breaksNone : Place → List ℕ → Sel → Bool
-breaksNone p t m = not (p .edited) && ltb (p .marks) markLimit && inText isLF t (m .anchor) && inText isLF t (m .head)
-
 abbrev placedAs : Place → List ℕ → Head → Head
 placedAs p t asHead.Malformed = asHead.Malformed
 placedAs p t asHead.Text = cond (p .sound) asHead.Malformed asHead.Text
-placedAs p t (asHead.Mark m) = cond (breaksNone p t m) (asHead.Mark m) asHead.Malformed
+placedAs p t (asHead.Mark m) = cond (markOk p t m) (asHead.Mark m) asHead.Malformed
 placedAs p t (asHead.Edit e) = asHead.Edit e
 
 text-as : (b : Bool) (s : List ℕ) → cond b asHead.Malformed asHead.Text ≡ headOf (cond b malformed (text s))
@@ -55,7 +49,7 @@ module _ (p : Place) (t : List ℕ) where
   unfolding placed headOf
   placed-as malformed = refl
   placed-as (text s) = text-as (p .sound) s
-  placed-as (mark m) = mark-as (breaksNone p t m) m
+  placed-as (mark m) = mark-as (markOk p t m) m
   placed-as (edit e at ks f s) = refl
 
   -- h is the head that was matched
@@ -69,7 +63,7 @@ module _ (p : Place) (t : List ℕ) where
     pub judged-text : h ≡ asHead.Text → p .sound ≡ false → asHead.Text ≡ headOf (placed p t g)
     judged-text e s = ap (λ (b : Bool). cond b asHead.Malformed asHead.Text) (sym s) ∙ judged-told asHead.Text e
 
-    module _ (m : Sel) (b : Bool) (e : h ≡ asHead.Mark m) (n : b ≡ breaksNone p t m) where
+    module _ (m : Sel) (b : Bool) (e : h ≡ asHead.Mark m) (n : b ≡ markOk p t m) where
       pub judged-mark : b ≡ true → asHead.Mark m ≡ headOf (placed p t g)
       judged-mark y = ap (λ (b : Bool). cond b (asHead.Mark m) asHead.Malformed) (sym y ∙ n) ∙ judged-told (asHead.Mark m) e
 

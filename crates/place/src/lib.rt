@@ -6,15 +6,12 @@ use hex::Unhexed;
 use hex::unhex;
 use select::Sel;
 use text::contains;
-ghost use mathlib.Core.Bool.{not, _&&_};
 ghost use mathlib.Core.Path.{_≡_};
 ghost use Prim.Native.Nat.{_≤_};
-ghost use lib.Dec.{ltb};
 ghost use lib.ListN.{length};
-ghost use Rattle.text.specs.Rows.{inText};
-ghost use Rattle.text.specs.Text.{isLF, textLimit};
+ghost use Rattle.text.specs.Text.{textLimit};
 ghost use Rattle.frame.specs.Forms.{Form, headOf, lineForm};
-ghost use Rattle.place.specs.Places.{markLimit, judged, seen};
+ghost use Rattle.place.specs.Places.{markLimit, markOk, judged, seen};
 
 // The most marks that are kept.
 pub const MARK_LIMIT: usize = 64;
@@ -73,7 +70,7 @@ fn line_head(line: &[u8]) -> Head
 // Whether a mark breaks none of its conditions.
 fn is_placed(place: Place, text: &[u32], sel: Sel) -> bool
     requires { ⌜ length (now text) ≤ textLimit ⌝ }
-    ensures { λ r. ⌜ r ≡ (not (place .edited) && ltb (place .marks) markLimit && inText isLF (now (text .entry)) (sel .anchor) && inText isLF (now (text .entry)) (sel .head)) ⌝ }
+    ensures { λ r. ⌜ r ≡ markOk place (now (text .entry)) sel ⌝ }
 {
     let anchor = sel.anchor;
     let head = sel.head;

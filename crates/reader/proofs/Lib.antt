@@ -5,6 +5,5 @@ pub mod Behinds
 pub mod Chunks
 pub mod Tallies
 pub mod Frames
-pub mod Unhexes
 pub mod Theorems
 pub mod EditLines

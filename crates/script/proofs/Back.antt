@@ -9,7 +9,7 @@ use Rattle.edit.specs.Demand3.{State as Core, text, Accepted, Undoable}
 use Rattle.edit.proofs.Demand3.{Reversed}
 use Rattle.hex.proofs.Zeros.{hexed-zero}
 use Rattle.frame.specs.Format.{edit, frameBytes}
-use Rattle.step.specs.States.{State}
+use Rattle.loading.specs.States.{State}
 use Rattle.step.specs.Steps.{step, ending}
 use Rattle.step.proofs.Framing.{core, saw, edit-step}
 use Rattle.step.proofs.Callings.{lined, accepted-leaves}

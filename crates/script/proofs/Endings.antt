@@ -13,11 +13,15 @@ use Rattle.select.specs.declared.Sel.{Sel}
 use Rattle.shift.specs.Answers.{Followed, to, dropped}
 use Rattle.frame.specs.Format.{text, mark, frameBytes}
 use Rattle.frame.specs.Inverses.{HasLine}
-use Rattle.step.specs.declared.Script.{Script}
-use Rattle.step.specs.States.{markIn, marksIn, stateOf}
-use Rattle.step.specs.Steps.{printedAs, markLine, markLines, ending}
+use Rattle.printing.specs.Prints.{printedAs}
+use Rattle.printing.proofs.Printed.{printed-length}
+use Rattle.marking.specs.FlatMarks.{markIn, marksIn}
+use Rattle.marking.specs.MarkLines.{markLine, markLines}
+use Rattle.loading.specs.declared.Script.{Script}
+use Rattle.loading.specs.States.{stateOf}
+use Rattle.step.specs.Steps.{ending}
 use Rattle.step.specs.Calls.{Ready}
-use Rattle.step.proofs.Readies.{printed-length, ready-lines}
+use Rattle.step.proofs.Readies.{ready-lines}
 use Rattle.script.specs.Courses.{Going}
 
 -- a line that was printed to the front of a slice, as it is lent from there

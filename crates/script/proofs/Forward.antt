@@ -10,7 +10,7 @@ use Rattle.edit.proofs.Calls.{Held}
 use Rattle.edit.proofs.Demand3.{run-held}
 use Rattle.frame.specs.Format.{mark, edit}
 use Rattle.frame.proofs.Formed.{read-plain}
-use Rattle.step.specs.States.{State, bufferLimit}
+use Rattle.loading.specs.States.{State, bufferLimit}
 use Rattle.step.specs.Steps.{step, ending}
 use Rattle.step.proofs.Framing.{core, saw, edit-step, mark-step}
 use Rattle.step.proofs.Callings.{lined, printed, undoable-called}

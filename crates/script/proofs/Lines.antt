@@ -5,7 +5,7 @@ use Prim.Native.Nat.{ℕ}
 use Rattle.text.specs.Rows.{line, lines}
 use Rattle.text.specs.Text.{isLF}
 use Rattle.text.proofs.Ended.{Plain, plain-front}
-use Rattle.step.specs.States.{State}
+use Rattle.loading.specs.States.{State}
 use Rattle.step.specs.Steps.{step, ending}
 use Rattle.script.specs.Scripts.{lineStep, run}
 use Rattle.script.specs.Undo.{script}

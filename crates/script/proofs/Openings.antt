@@ -12,8 +12,9 @@ use Rattle.edit.proofs.Accepted.{holds, Ok}
 use Rattle.frame.specs.Format.{text}
 use Rattle.frame.specs.Reads.{frameRead}
 use Rattle.frame.proofs.Formed.{read-plain}
-use Rattle.step.specs.States.{State, textIn, bufferLimit, opening}
-use Rattle.step.specs.Steps.{step, markLines, ending}
+use Rattle.marking.specs.MarkLines.{markLines}
+use Rattle.loading.specs.States.{State, textIn, bufferLimit, opening}
+use Rattle.step.specs.Steps.{step, ending}
 use Rattle.step.proofs.TextLines.{opens}
 use Rattle.script.specs.Scripts.{output}
 use Rattle.script.specs.Undo.{script, textLine}

@@ -14,8 +14,9 @@ use Rattle.hex.specs.Digits.{paired, unhexed}
 use Rattle.frame.specs.Forms.{lineForm, formBy}
 use Rattle.frame.specs.Reads.{readForm}
 use Rattle.place.specs.Places.{placed, seen}
-use Rattle.step.specs.States.{State}
-use Rattle.step.specs.Steps.{refuses, framed, step, ending}
+use Rattle.loading.specs.States.{State}
+use Rattle.loading.specs.Loads.{refuses, framedBy}
+use Rattle.step.specs.Steps.{step, ending}
 use Rattle.script.specs.Scripts.{lineStep, run}
 use Rattle.script.specs.Courses.{Steps}
 
@@ -50,7 +51,7 @@ cut-line (x ∷ t) h = go (isLF x) refl (cut-line t)
 
 -- an empty line is malformed
 empty-step : (s : State) → step s [] ≡ refuses s 10
-unfolding step lineForm formBy paired unhexed placed seen framed readForm
+unfolding step lineForm formBy paired unhexed placed seen framedBy readForm
 empty-step s = refl
 
 -- where no line is left

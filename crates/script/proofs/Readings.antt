@@ -10,7 +10,7 @@ use Rattle.edit.proofs.Maps.{map-append}
 use Rattle.frame.specs.Format.{edit}
 use Rattle.frame.specs.Reads.{frameRead}
 use Rattle.frame.proofs.Formed.{read-plain}
-use Rattle.step.specs.States.{bufferLimit}
+use Rattle.loading.specs.States.{bufferLimit}
 use Rattle.step.proofs.Callings.{lined}
 use Rattle.script.proofs.Lines.{Plains, none as no-lines, more as more-lines}
 

@@ -6,12 +6,13 @@ use Prim.Native.Nat.{ℕ, _-_}
 use lib.ListN.{take, drop}
 use Rattle.text.specs.Rows.{lines}
 use Rattle.text.specs.Text.{isLF}
-use Rattle.step.specs.declared.Script.{Script}
-use Rattle.step.specs.declared.Progress.{Progress}
-use Rattle.step.specs.States.{State, stateOf, scriptOf}
-use Rattle.step.specs.Steps.{Stepped, step}
+use Rattle.marking.proofs.FlatMarks.{marks-over}
+use Rattle.loading.specs.declared.Script.{Script}
+use Rattle.loading.specs.declared.Progress.{Progress}
+use Rattle.loading.specs.States.{State, stateOf, scriptOf}
+use Rattle.loading.specs.Loads.{Stepped}
+use Rattle.step.specs.Steps.{step}
 use Rattle.step.specs.Calls.{Ready, Left, left, stepLeaves}
-use Rattle.step.proofs.FlatMarks.{marks-over}
 use Rattle.step.proofs.Readies.{marks-counted}
 use Rattle.script.specs.declared.Went.{Went}
 use Rattle.script.specs.Scripts.{run}

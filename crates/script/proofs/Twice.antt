@@ -14,8 +14,8 @@ use Rattle.text.specs.Rows.{lines}
 use Rattle.text.specs.Text.{isLF}
 use Rattle.utf8.specs.Calls.{outcome, stored}
 use Rattle.utf8.proofs.Stores.{stored-not, stored-all}
-use Rattle.step.specs.declared.Script.{Script}
-use Rattle.step.specs.States.{opening, scriptOf, stateOf}
+use Rattle.loading.specs.declared.Script.{Script}
+use Rattle.loading.specs.States.{opening, scriptOf, stateOf}
 use Rattle.step.specs.Calls.{Ready}
 use Rattle.step.proofs.Readies.{opening-state, ready-opening}
 use Rattle.script.specs.declared.Went.{Went}

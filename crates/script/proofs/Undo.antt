@@ -18,8 +18,9 @@ use Rattle.frame.specs.Reads.{frameRead}
 use Rattle.frame.specs.Theorems.{usedOf}
 use Rattle.frame.proofs.Theorems.{reads-written}
 use Rattle.frame.proofs.Inverses.{inverses-have-lines, texts-have-lines}
-use Rattle.step.specs.States.{State, textIn, bufferLimit, opening}
-use Rattle.step.specs.Steps.{step, markLines}
+use Rattle.marking.specs.MarkLines.{markLines}
+use Rattle.loading.specs.States.{State, textIn, bufferLimit, opening}
+use Rattle.step.specs.Steps.{step}
 use Rattle.step.proofs.Framing.{core}
 use Rattle.step.proofs.Callings.{lined}
 use Rattle.step.proofs.TextLines.{opens}

@@ -7,7 +7,7 @@ use lib.ListN.{length, take, drop}
 use Rattle.promise.specs.Slices.{over}
 use Rattle.text.specs.Rows.{lines}
 use Rattle.text.specs.Text.{isLF}
-use Rattle.step.specs.States.{State}
+use Rattle.loading.specs.States.{State}
 use Rattle.step.specs.Steps.{step}
 use Rattle.script.specs.declared.Went.{Went}
 use Rattle.script.specs.Scripts.{run}

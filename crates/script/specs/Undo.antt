@@ -12,8 +12,9 @@ use Rattle.select.specs.declared.Sel.{Sel}
 use Rattle.hex.specs.Digits.{hexed}
 use Rattle.frame.specs.Format.{text, mark, edit, frameBytes}
 use Rattle.frame.specs.Reads.{frameRead}
-use Rattle.step.specs.States.{State, textIn, bufferLimit, opening}
-use Rattle.step.specs.Steps.{lentTo, step, markLines}
+use Rattle.marking.specs.MarkLines.{markLines}
+use Rattle.loading.specs.States.{State, textIn, bufferLimit, opening}
+use Rattle.step.specs.Steps.{lentTo, step}
 use Rattle.script.specs.Scripts.{output}
 
 -- some lines as a script, "each ended by LF"

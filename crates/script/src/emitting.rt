@@ -1,16 +1,18 @@
 // Lines of output, one behind the other. They are kept, or only counted.
 use crate::Went;
-use step::Script;
-use step::print_mark;
-use step::print_text;
+use loading::Script;
+use marking::print_mark;
+use printing::print_text;
 ghost use mathlib.Core.Bool.{cond};
 ghost use mathlib.Core.List.{List, [], _++_};
 ghost use mathlib.Core.Path.{_≡_};
 ghost use Prim.Native.Nat.{ℕ, _+_, _*_, _≤_};
 ghost use lib.ListN.{length};
 ghost use lib.Seq.{paste};
-ghost use Rattle.step.specs.States.{marksIn, stateOf};
-ghost use Rattle.step.specs.Steps.{markLines, ending};
+ghost use Rattle.marking.specs.FlatMarks.{marksIn};
+ghost use Rattle.marking.specs.MarkLines.{markLines};
+ghost use Rattle.loading.specs.States.{stateOf};
+ghost use Rattle.step.specs.Steps.{ending};
 ghost use Rattle.step.specs.Calls.{Ready};
 ghost use Rattle.script.specs.Courses.{Going, Goes};
 

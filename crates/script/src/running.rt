@@ -1,7 +1,7 @@
 // A script's lines, one after another.
 use crate::Went;
 use crate::emitting::add_line;
-use step::Script;
+use loading::Script;
 use step::step;
 ghost use mathlib.Core.List.{List, _++_};
 ghost use mathlib.Core.Path.{_≡_};
@@ -9,7 +9,7 @@ ghost use Prim.Native.Nat.{ℕ, _+_, _-_, _≤_, _<_};
 ghost use lib.ListN.{length, take, drop};
 ghost use Rattle.text.specs.Rows.{lines, rowLen};
 ghost use Rattle.text.specs.Text.{isLF};
-ghost use Rattle.step.specs.States.{State, stateOf};
+ghost use Rattle.loading.specs.States.{State, stateOf};
 ghost use Rattle.step.specs.Steps.{step, ending};
 ghost use Rattle.step.specs.Calls.{Ready};
 ghost use Rattle.script.specs.Scripts.{run};

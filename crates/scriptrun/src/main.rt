@@ -2,18 +2,18 @@
 // pieces and be of any length.
 use libc::STDIN_FILENO;
 use libc::STDOUT_FILENO;
+use loading::Script;
+use marking::print_mark;
+use printing::print_text;
 use step::LINE_ROOM;
 use step::MARK_ROOM;
-use step::Script;
 use step::TEXT_ROOM;
 use step::opening;
-use step::print_mark;
-use step::print_text;
 use step::step;
 ghost use mathlib.Core.Path.{_≡_};
 ghost use Prim.Native.Nat.{_+_, _≤_};
 ghost use lib.ListN.{length};
-ghost use Rattle.step.specs.States.{scriptOf, opening as start};
+ghost use Rattle.loading.specs.States.{scriptOf, opening as start};
 ghost use Rattle.step.specs.Calls.{Ready};
 
 const LF: u8 = 10;

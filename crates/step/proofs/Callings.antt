@@ -14,9 +14,10 @@ use Rattle.edit.proofs.Calls.{accepted-once, refused-number, answer-fits}
 use Rattle.hex.specs.Digits.{digitOf, hexed}
 use Rattle.hex.proofs.Zeros.{zero-byte, hexed-zero}
 use Rattle.frame.specs.Format.{edit, frameBytes}
-use Rattle.step.specs.States.{State}
-use Rattle.step.specs.Steps.{printedAs, lentTo, carried, answered, ran, ordered, edited}
-use Rattle.step.proofs.Orders.{applied-same}
+use Rattle.printing.specs.Prints.{printedAs}
+use Rattle.marking.proofs.Orders.{applied-same}
+use Rattle.loading.specs.States.{State}
+use Rattle.step.specs.Steps.{lentTo, carried, answered, ran, ordered, edited}
 use Rattle.step.proofs.Framing.{core}
 
 -- what the call is handed beside

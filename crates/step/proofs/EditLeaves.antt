@@ -24,25 +24,28 @@ use Rattle.edit.specs.Demand3.{returned}
 use Rattle.edit.proofs.Calls.{lengths-kept, answer-fits}
 use Rattle.edit.proofs.Workers.{given-passed, applied-refused}
 use Rattle.given.specs.Tests.{laterTests}
-use Rattle.select.specs.declared.Sel.{Sel}
-use Rattle.shift.specs.Answers.{Followed}
 use Rattle.shift.specs.Call.{orderedOk}
 use Rattle.shift.proofs.Handed.{small-first, few-first}
 use Rattle.frame.specs.Format.{Frame, edit, frameBytes}
 use Rattle.frame.specs.Inverses.{HasLine}
 use Rattle.reader.proofs.EditLines.{Held}
-use Rattle.step.specs.declared.Script.{Script}
-use Rattle.step.specs.declared.Progress.{Progress}
-use Rattle.step.specs.States.{State, bufferLimit, flatMarks, marksIn, stateOf}
-use Rattle.step.specs.Steps.{printedAs, refuses, lentTo, inOrder, carried, answered, ran, edited, framed}
-use Rattle.step.specs.Calls.{Ready, Left, left, leaves, inverseIn}
-use Rattle.step.specs.Carries.{carriedMark}
-use Rattle.step.proofs.Orders.{in-order}
+use Rattle.printing.specs.Prints.{printedAs}
+use Rattle.printing.proofs.Printed.{printed-length}
+use Rattle.marking.specs.FlatMarks.{flatMarks, marksIn}
+use Rattle.marking.specs.Carries.{carriedMark}
+use Rattle.marking.specs.InOrder.{inOrder}
+use Rattle.marking.proofs.FlatMarks.{length-marks, count-marks}
+use Rattle.marking.proofs.Orders.{in-order}
+use Rattle.loading.specs.declared.Script.{Script}
+use Rattle.loading.specs.declared.Progress.{Progress}
+use Rattle.loading.specs.States.{State, bufferLimit, stateOf}
+use Rattle.loading.specs.Loads.{refuses, framedBy}
+use Rattle.step.specs.Steps.{lentTo, carried, answered, ran, edited, framed}
+use Rattle.step.specs.Calls.{Ready, Left, left, leaves, carriedIn, inverseIn}
 use Rattle.step.proofs.Framing.{core}
 use Rattle.step.proofs.Callings.{beside}
-use Rattle.step.proofs.FlatMarks.{length-marks, count-marks}
-use Rattle.step.proofs.Carrying.{moved-marks}
-use Rattle.step.proofs.Readies.{printed-length, inverse-lines, judged-given}
+use Rattle.step.proofs.Readies.{inverse-lines, judged-given}
+use Rattle.step.proofs.Shifts.{moved-marks}
 
 -- the inverse as it is lent to be printed
 module _ (a : Applied) (x f s : List ℕ) where
@@ -112,6 +115,10 @@ module _ (c : Script) (t m : List ℕ) (h : Ready c t m) where
             rw (front t (c .view .used)) (few-first (take (c .view .used) t) (w .edit) (w .payload) (w .first) (w .second) (T-true (fewOk (take (c .view .used) t) (w .edit) (w .payload) (w .first) (w .second)) (p .fews))),
           )
 
+      pub carried-over : orderedOk (w .edit) ≡ true → (n : List ℕ)
+          → n ≡ over (flatMarks (map (carriedMark (take (c .view .used - 0) (drop 0 t)) (w .edit) (w .payload) (w .first)) (marksIn (c .place .marks) m))) m → n ≡ carriedIn s w m
+      carried-over ends n e = e ∙ rw (front t (c .view .used), moved-marks s w g ends (marksIn (c .place .marks) m))
+
     module _ (p : Paper Applied) (t′ x f g : List ℕ) (e : outcome p t′ x f g ≡ applied (c .view) (w .edit) lentHere) where
       same : outcome p t′ x f g ≡ call
       same =
@@ -119,9 +126,6 @@ module _ (c : Script) (t m : List ℕ) (h : Ready c t m) where
 
       answers : call .answer ≡ p
       answers = ap (λ (r : Outcome). r .answer) (sym same)
-
-      pub text-long : length t′ ≡ length t
-      text-long = ap (λ (r : Outcome). length (r .text)) same ∙ lengths-kept (c .view) (w .edit) (lentTo s w) .text
 
       payload-long : length x ≡ length t
       payload-long =
@@ -169,13 +173,11 @@ module _ (c : Script) (t m : List ℕ) (h : Ready c t m) where
               rw inverse-same (inverse-lines c t m h w a (answers ∙ q)),
             )
 
-        module _ (v : verdictOf (givenTests (c .view) (w .edit) (lentTo s w)) ≡ done tt) (ends : orderedOk (w .edit) ≡ true) (n : List ℕ)
-            (moved : n ≡ over (flatMarks (map (carriedMark (take (c .view .used - 0) (drop 0 t)) (w .edit) (w .payload) (w .first)) (marksIn (c .place .marks) m))) m) where
+        module _ (n : List ℕ) (moved : n ≡ carriedIn s w m) where
           pub moved-long : length n ≡ length m
           moved-long =
-              let f : Followed Sel → Followed Sel = carriedMark (take (c .view .used - 0) (drop 0 t)) (w .edit) (w .payload) (w .first) in
               let ms = marksIn (c .place .marks) m in
-              let l : length (flatMarks (map f ms)) ≡ 5 * c .place .marks = omega (arith, length-marks (map f ms), length-map ms f, count-marks (c .place .marks) m) in
+              let l : length (flatMarks (map (carried s w) ms)) ≡ 5 * c .place .marks = omega (arith, length-marks (map (carried s w) ms), length-map ms (carried s w), count-marks (c .place .marks) m) in
               ap length moved ∙ simp (length-append, length-drop) (omega (arith, h .few, h .room))
 
           pub accepted-leaves : (r : Progress) (o u m′ : List ℕ)
@@ -184,8 +186,7 @@ module _ (c : Script) (t m : List ℕ) (h : Ready c t m) where
           unfolding answered
           accepted-leaves r o u m′ z =
               let b : t′ ≡ call .text = ap (λ (i : Outcome). i .text) same in
-              let k : n ≡ over (flatMarks (map (carried s w) (marksIn (c .place .marks) m))) m = moved ∙ rw (front t (c .view .used), moved-marks s w v ends (marksIn (c .place .marks) m)) in
-              rw (ran-answered (done a) (answers ∙ q), b, z .0, z .1, z .2, z .3, k, inverse-same)
+              rw (ran-answered (done a) (answers ∙ q), b, z .0, z .1, z .2, z .3, moved, inverse-same)
 
 -- an edit e with its ends in order is d, which was judged
 module _ (c : Script) (t m : List ℕ) (h : Ready c t m) (e d : Edit) (x f g : List ℕ) (q : d ≡ inOrder e) (v : Verdict)
@@ -218,12 +219,12 @@ module _ (c : Script) (t m : List ℕ) (h : Ready c t m) (p : Paper Frame) where
   pub edit-leaves : (e : Edit) (x : List ℕ) (n : ℕ) (f : List ℕ) (i : ℕ) (g : List ℕ) (j : ℕ) → Held p e x n f i g j → (y : Left) (o : List ℕ)
       → y ≡ leaves (edited (stateOf c t m) (whole e (take (n - 0) (drop 0 x)) (take (i - 0) (drop 0 f)) (take (j - 0) (drop 0 g)))) m o
       → y ≡ leaves (framed (stateOf c t m) p) m o
-  unfolding framed
+  unfolding framedBy
   edit-leaves e x n f i g j q y o z = rw (q .3) (rw (front x n, front f i, front g j) at z)
 
   pub line-leaves : (n k : ℕ) → p ≡ refused n k → (r : Progress) (o u : List ℕ) → (r .script ≡ c) × (r .printed ≡ 3) × (u ≡ over (printedAs (n ∷ [])) o)
       → left r t m u ≡ leaves (framed (stateOf c t m) p) m o
-  unfolding framed
+  unfolding framedBy
   line-leaves n k q r o u z = rw q (refusal-leaves c t m h r n o u z)
 
 pub zeros-long : (n : ℕ) → n ≤ length {A = ℕ} (replicate n 0)

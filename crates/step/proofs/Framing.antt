@@ -14,9 +14,10 @@ use Rattle.frame.specs.Format.{Frame, text, mark, edit}
 use Rattle.frame.specs.Forms.{malformed, lineForm}
 use Rattle.frame.specs.Reads.{readForm, frameRead}
 use Rattle.place.specs.Places.{placed, seen}
-use Rattle.place.proofs.InPlace.{edit-placed, text-placed, mark-placed}
-use Rattle.step.specs.States.{State, textIn}
-use Rattle.step.specs.Steps.{loaded, edited, framed, sees, step}
+use Rattle.place.proofs.InPlace.{edit-placed, text-placed, placed-or}
+use Rattle.loading.specs.States.{State, textIn}
+use Rattle.loading.specs.Loads.{loaded, framedBy}
+use Rattle.step.specs.Steps.{edited, framed, sees, step}
 
 -- the text's part of a state
 abbrev pub core : State → Core
@@ -32,19 +33,19 @@ module _ (s : State) (l : List ℕ) where
   placed-step f e h = rw (h, e)
 
   pub edit-step : (w : Whole ℕ) → frameRead l ≡ done (edit w) → step s l ≡ edited (saw s l) w
-  unfolding framed
+  unfolding framedBy
   edit-step w e = placed-step (edit w) e (edit-placed (s .place) (textIn s) (lineForm l) w e)
 
   pub text-step : (cs : List ℕ) → s .place .sound ≡ false → frameRead l ≡ done (text cs) → step s l ≡ loaded (saw s l) cs
-  unfolding framed
+  unfolding framedBy
   text-step cs n e = placed-step (text cs) e (text-placed (s .place) (textIn s) (lineForm l) cs n e)
 
   -- a malformed line prints something
   malformed-prints : placed (s .place) (textIn s) (lineForm l) ≡ malformed → step s l .printed ≡ [] → ⊥
-  unfolding step framed readForm hexed
+  unfolding step framedBy readForm hexed
   malformed-prints h e = let k = rw h at e in let z : _≡_ {A = ℕ} 0 1 = cc in omega arith
 
   pub mark-step : (m : Sel) → frameRead l ≡ done (mark m) → step s l .printed ≡ [] → core (step s l .state) ≡ core s
-  unfolding framed
+  unfolding framedBy
   mark-step m e p =
-      ⊎-elim (λ h. rw (placed-step (mark m) e h)) (λ h. absurd (malformed-prints h p)) (mark-placed (s .place) (textIn s) (lineForm l) m e)
+      ⊎-elim (λ h. rw (placed-step (mark m) e h)) (λ h. absurd (malformed-prints h p)) (placed-or (s .place) (textIn s) (lineForm l))

@@ -1,15 +1,9 @@
-pub mod Orders
 pub mod Framing
 pub mod Callings
 pub mod TextLines
-pub mod FlatMarks
-pub mod Carrying
-pub mod Printed
 pub mod Admitted
 pub mod Readies
-pub mod WrittenLines
-pub mod Loading
-pub mod TextFrames
-pub mod InverseLine
+pub mod Shifts
 pub mod EditLeaves
 pub mod Stepping
+pub mod Theorems

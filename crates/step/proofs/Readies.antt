@@ -23,7 +23,7 @@ use Rattle.edit.specs.Refusals.{smallOk, fewOk, payloadOk}
 use Rattle.edit.specs.Call.{firstOf, verdictOf, lent, Outcome, resultOf, givenTests, applied}
 use Rattle.edit.specs.Demand3.{State as Core, after, returned}
 use Rattle.edit.proofs.Accepted.{doing}
-use Rattle.edit.proofs.Calls.{Called, next, lengths-kept, accepted-called}
+use Rattle.edit.proofs.Calls.{Called, lengths-kept, accepted-called}
 use Rattle.edit.proofs.Workers.{accepted}
 use Rattle.given.specs.Tests.{laterTests}
 use Rattle.select.specs.declared.Sel.{Sel}
@@ -40,19 +40,20 @@ use Rattle.frame.proofs.Inverses.{inverses-have-lines, texts-have-lines}
 use Rattle.place.specs.declared.Place.{Place}
 use Rattle.place.specs.Places.{markLimit, judged, seen}
 use Rattle.place.proofs.InPlace.{mark-few}
-use Rattle.step.specs.declared.Script.{Script}
-use Rattle.step.specs.States.{State, state, textIn, bufferLimit, opening, flatMark, flatMarks, marksIn, stateOf, scriptOf}
-use Rattle.step.specs.Steps.{Stepped, stepped, printedAs, refuses, loaded, lentTo, carried, answered, ran, ordered, framed, sees, step}
+use Rattle.printing.specs.Prints.{printedAs}
+use Rattle.printing.proofs.Printed.{printed-length}
+use Rattle.marking.specs.FlatMarks.{flatMark, flatMarks, marksIn}
+use Rattle.marking.proofs.FlatMarks.{length-mark, length-marks, flat-append, count-marks, marks-over}
+use Rattle.loading.specs.declared.Script.{Script}
+use Rattle.loading.specs.States.{State, state, textIn, bufferLimit, opening, stateOf, scriptOf}
+use Rattle.loading.specs.Loads.{Stepped, stepped, refuses, loaded, framedBy}
+use Rattle.step.specs.Steps.{lentTo, carried, answered, ran, ordered, framed, sees, step}
 use Rattle.step.specs.Calls.{Ready}
-use Rattle.step.proofs.FlatMarks.{length-mark, length-marks, flat-append, count-marks, marks-over}
 use Rattle.step.proofs.Framing.{core}
 use Rattle.step.proofs.Callings.{once}
 use Rattle.step.proofs.Admitted.{edited-admitted}
 
 -- ---- lines printed
-
-pub printed-length : (bs : List ℕ) → length (printedAs bs) ≡ length bs * 2 + 1
-printed-length bs = rw length-append (omega (arith, two-digits bs))
 
 line-short : (f : Frame) → HasLine f → length (frameBytes f) ≤ 18_432
 line-short f h = omega (arith, line-done f (hexed (frameBytes f)) h .2, two-digits (frameBytes f))
@@ -196,18 +197,18 @@ ready-seen c p t m e h = record { admitted = h .admitted; small = h .small; room
 
 module _ (c : Script) (t m : List ℕ) (h : Ready c t m) where
   read-text : (r : Contents) → Onward (framed (stateOf c t m) (textOf r)) m
-  unfolding framed textOf
+  unfolding framedBy textOf
   read-text (chars xs) = ready-loaded c t m h (flatten xs)
   read-text (badFrom k) = ready-refused c t m h 5
 
   read-edit : (e : Edit) (f g : List ℕ) (r : Contents) → Onward (framed (stateOf c t m) (editOf e f g r)) m
-  unfolding framed editOf
+  unfolding framedBy editOf
   read-edit e f g (chars xs) = ready-ran c t m h (ordered (whole e (flatten xs) (firstList e xs f) g))
   read-edit e f g (badFrom k) = ready-refused c t m h 5
 
 module _ (c : Script) (t m l : List ℕ) (h : Ready c t m) where
   onward : (g : Form) → judged (c .place) (textIn (stateOf c t m)) l ≡ g → Onward (framed (sees (stateOf c t m) (seen (c .place) g)) (readForm g)) m
-  unfolding framed readForm seen
+  unfolding framedBy readForm seen
   onward malformed e = ready-refused c t m h 10
   onward (text u) e = let p = seen (c .place) (text u) in read-text (record { view = c .view; place = p }) t m (ready-seen c p t m refl h) (contents 1 (u ∷ []))
   onward (mark k) e = ready-mark c t m h k (seen (c .place) (mark k)) refl (mark-few (c .place) (textIn (stateOf c t m)) (lineForm l) k e)

@@ -1,6 +1,6 @@
 -- One line, by the head that it was judged to have.
-use mathlib.Core.Path.{_≡_, refl, sym, ap, _∙_, subst}
-use mathlib.Core.Bool.{Bool, true, false, cond, not, _&&_}
+use mathlib.Core.Path.{_≡_, refl, sym, ap, _∙_}
+use mathlib.Core.Bool.{Bool, true, false, cond, not}
 use mathlib.Core.List.{List, [], _∷_, flatten}
 use Prim.Native.Nat.{ℕ, suc, _-_, _*_, _≤_, _<_}
 use native.Mathlib.Nat.{sub-zero}
@@ -9,70 +9,34 @@ use lib.Dec.{ltb}
 use lib.ListN.{length, take, drop}
 use lib.Seq.{paste}
 use Rattle.promise.specs.Slices.{over}
-use Rattle.text.specs.Rows.{at, inText}
-use Rattle.text.specs.Text.{isLF, allAdmissible}
+use Rattle.text.specs.Rows.{at}
+use Rattle.text.specs.Text.{allAdmissible}
 use Rattle.hex.specs.Digits.{hexed}
 use Rattle.edit.specs.declared.Edit.{Edit}
+use Rattle.edit.specs.Edits.{Whole}
 use Rattle.select.specs.declared.Sel.{Sel}
 use Rattle.shift.specs.Answers.{Followed, to}
 use Rattle.frame.specs.declared.Head.{Head}
 use Rattle.frame.specs.declared.Head.the-variants as asHead
 use Rattle.frame.specs.Forms.{Form, malformed, text, mark, edit, lineForm, headOf}
 use Rattle.frame.specs.Reads.{Contents, chars, badFrom, contents, textOf, readForm, frameRead}
+use Rattle.frame.proofs.Heads.{malformed-by-head, mark-by-head}
 use Rattle.place.specs.declared.Place.{Place}
-use Rattle.place.specs.Places.{markLimit, placed, judged, seen}
-use Rattle.place.proofs.InPlace.{mark-few}
-use Rattle.step.specs.declared.Script.{Script}
-use Rattle.step.specs.declared.Progress.{Progress}
-use Rattle.step.specs.States.{State, state, stateOf, textIn, scriptOf, flatMark, flatMarks, marksIn}
-use Rattle.step.specs.Steps.{Stepped, stepped, printedAs, refuses, loaded, framed, sees, step}
-use Rattle.step.specs.Calls.{Ready, Left, left, leaves, stepLeaves, Part, part, partOf}
+use Rattle.place.specs.Places.{judged, seen}
+use Rattle.place.proofs.InPlace.{in-place, mark-few, edit-seen}
+use Rattle.printing.specs.Prints.{printedAs}
+use Rattle.marking.specs.FlatMarks.{flatMark, flatMarks}
+use Rattle.loading.specs.declared.Script.{Script}
+use Rattle.loading.specs.declared.Progress.{Progress}
+use Rattle.loading.specs.States.{State, state, stateOf, textIn, scriptOf}
+use Rattle.loading.specs.Loads.{Stepped, stepped, refuses, loaded, framedBy}
+use Rattle.step.specs.Steps.{edited, framed, sees, step}
+use Rattle.loading.specs.Calls.{Part, part, partOf}
+use Rattle.step.specs.Calls.{Ready, Left, left, leaves, stepLeaves}
 use Rattle.step.proofs.Readies.{ready-step, printed-short, ready-seen, mark-kept}
 
--- ---- forms by their heads
-
-clash : {A : Type 0} → _≡_ {A = ℕ} 0 1 → A
-clash e = absurd (omega arith)
-
-malformed-form : (g : Form) → headOf g ≡ asHead.Malformed → g ≡ malformed
-unfolding headOf
-malformed-form malformed e = refl
-malformed-form (text s) e = clash cc
-malformed-form (mark m) e = clash cc
-malformed-form (edit d at ks f s) e = clash cc
-
-mark-form : (g : Form) (k : Sel) → headOf g ≡ asHead.Mark k → g ≡ mark k
-unfolding headOf
-mark-form malformed k e = clash cc
-mark-form (text s) k e = clash cc
-mark-form (mark m) k e = let q : m ≡ k = cc in ap mark q
-mark-form (edit d at ks f s) k e = clash cc
-
-edit-seen : (p : Place) (g : Form) (d : Edit) → headOf g ≡ asHead.Edit d → seen p g .marks ≡ p .marks
-unfolding headOf seen
-edit-seen p malformed d e = clash cc
-edit-seen p (text s) d e = clash cc
-edit-seen p (mark m) d e = clash cc
-edit-seen p (edit b at ks f s) d e = refl
-
--- a line that is in its place is judged to be what it is
-kept-or : (b : Bool) (f : Form) (h : Head) → headOf (cond b f malformed) ≡ h → (h ≡ asHead.Malformed → ⊥) → cond b f malformed ≡ f
-unfolding headOf
-kept-or true f h e n = refl
-kept-or false f h e n = absurd (n (sym e))
-
-text-or : (b : Bool) (f : Form) (h : Head) → headOf (cond b malformed f) ≡ h → (h ≡ asHead.Malformed → ⊥) → cond b malformed f ≡ f
-unfolding headOf
-text-or true f h e n = absurd (n (sym e))
-text-or false f h e n = refl
-
-in-place : (p : Place) (t : List ℕ) (f : Form) (h : Head) → headOf (placed p t f) ≡ h → (h ≡ asHead.Malformed → ⊥) → placed p t f ≡ f
-unfolding placed
-in-place p t malformed h e n = refl
-in-place p t (text s) h e n = text-or (p .sound) (text s) h e n
-in-place p t (mark m) h e n =
-    kept-or (not (p .edited) && ltb (p .marks) markLimit && inText isLF t (m .anchor) && inText isLF t (m .head)) (mark m) h e n
-in-place p t (edit d at ks f s) h e n = refl
+never : {A : Type 0} → _≡_ {A = ℕ} 0 1 → A
+never e = absurd (omega arith)
 
 -- ---- a text frame leaves the marks
 
@@ -87,16 +51,16 @@ loaded-marks s cs = go (not (allAdmissible cs)) (ltb (length (s .buffer)) (lengt
     go false false = refl
 
 read-marks : (s : State) (x : Contents) → framed s (textOf x) .state .marks ≡ s .marks
-unfolding framed textOf
+unfolding framedBy textOf
 read-marks s (chars xs) = loaded-marks s (flatten xs)
 read-marks s (badFrom k) = refl
 
 text-marks : (s : State) (f : Form) → headOf f ≡ asHead.Text → framed s (readForm f) .state .marks ≡ s .marks
 unfolding headOf readForm
-text-marks s malformed e = clash cc
+text-marks s malformed e = never cc
 text-marks s (text u) e = read-marks s (contents 1 (u ∷ []))
-text-marks s (mark m) e = clash cc
-text-marks s (edit d at ks f k) e = clash cc
+text-marks s (mark m) e = never cc
+text-marks s (edit d at ks f k) e = never cc
 
 -- ---- the step
 
@@ -128,10 +92,10 @@ module _ (c : Script) (t m l : List ℕ) (ready : Ready c t m) (h : Head) (e : h
 
   -- what the functions of each kind may rely on
   pub text-head : h ≡ asHead.Text → headOf (lineForm l) ≡ asHead.Text
-  text-head k = line-head (λ w. clash cc) ∙ k
+  text-head k = line-head (λ w. never cc) ∙ k
 
   mark-seen : (k : Sel) → h ≡ asHead.Mark k → (g ≡ mark k) × (q ≡ seen (c .place) (mark k))
-  mark-seen k i = let f = mark-form g k (told ∙ i) in (f, saw (mark k) (ap headOf (sym f) ∙ told))
+  mark-seen k i = let f = mark-by-head g k (told ∙ i) in (f, saw (mark k) (ap headOf (sym f) ∙ told))
 
   pub mark-room : (k : Sel) → h ≡ asHead.Mark k → (0 < q .marks) × (q .marks ≤ 64) × (length m ≡ 320)
   unfolding seen
@@ -148,23 +112,23 @@ module _ (c : Script) (t m l : List ℕ) (ready : Ready c t m) (h : Head) (e : h
   edit-ready d k = ready-seen c q t m (marks-kept d k) ready
 
   pub edit-head : (d : Edit) → h ≡ asHead.Edit d → (b : Edit) × (headOf (lineForm l) ≡ asHead.Edit b)
-  edit-head d k = (d, line-head (λ w. clash cc) ∙ k)
+  edit-head d k = (d, line-head (λ w. never cc) ∙ k)
 
   module _ (r : Progress) (o : List ℕ) where
     pub malformed-left : (z : List ℕ) → h ≡ asHead.Malformed → r .script ≡ next → r .printed ≡ 3 → z ≡ over (printedAs (10 ∷ [])) o
         → left r t m z ≡ stepLeaves c l t m o
-    unfolding framed readForm hexed
+    unfolding framedBy readForm hexed
     malformed-left z k a b d =
-        let f = malformed-form g (told ∙ k) in
+        let f = malformed-by-head g (told ∙ k) in
         rw (stepped-as, f, a, b, d, ready .hold)
 
     pub text-left : (u z : List ℕ) → h ≡ asHead.Text
-        → ((ms : List (Followed Sel)) → part r u z ≡ partOf (framed (state (c .view) t q ms) (frameRead l)) o)
+        → ((ms : List (Followed Sel)) (f : Whole ℕ → Stepped) → part r u z ≡ partOf (framedBy f (state (c .view) t q ms) (frameRead l)) o)
         → left r u m z ≡ stepLeaves c l t m o
     text-left u z k a =
-        let n : h ≡ asHead.Malformed → ⊥ = λ w. clash cc in
+        let n : h ≡ asHead.Malformed → ⊥ = λ w. never cc in
         let x = stepped-read n in
-        let d = a (s .marks) in
+        let d = a (s .marks) (edited (sees s q)) in
         let w : step s l .state .marks ≡ s .marks = rw x (text-marks (sees s q) (lineForm l) (line-head n ∙ k)) in
         let i : r .script ≡ scriptOf (step s l .state) = rw x (ap (λ (y : Part). y .script) d) in
         let j : r .printed ≡ length (step s l .printed) = rw x (ap (λ (y : Part). y .printed) d) in
@@ -174,7 +138,7 @@ module _ (c : Script) (t m l : List ℕ) (ready : Ready c t m) (h : Head) (e : h
 
     pub mark-left : (k : Sel) → h ≡ asHead.Mark k → (y : List ℕ) → r .script ≡ next → r .printed ≡ 0 → y ≡ paste m ((q .marks - 1) * 5) (flatMark (to k)) 5
         → left r t y o ≡ stepLeaves c l t m o
-    unfolding framed readForm seen
+    unfolding framedBy readForm seen
     mark-left k i y a b d =
         let f = mark-seen k i in
         let w = mark-few (c .place) (textIn s) (lineForm l) k (f .0) in
@@ -184,7 +148,7 @@ module _ (c : Script) (t m l : List ℕ) (ready : Ready c t m) (h : Head) (e : h
         → left r u y z ≡ stepLeaves c l t m o
     edit-left d k u y z a =
         let x : stateOf next t m ≡ sees s q = rw (marks-kept d k) in
-        a ∙ ap (λ (w : State). leaves (framed w (frameRead l)) m o) x ∙ ap (λ (w : Stepped). leaves w m o) (sym (stepped-read (λ w. clash cc)))
+        a ∙ ap (λ (w : State). leaves (framed w (frameRead l)) m o) x ∙ ap (λ (w : Stepped). leaves w m o) (sym (stepped-read (λ w. never cc)))
 
   -- ready for the next line
   pub still-ready : (r : Progress) (u y z o : List ℕ) → left r u y z ≡ stepLeaves c l t m o → Ready (r .script) u y × (r .printed ≤ 36_867)

@@ -14,8 +14,9 @@ use Rattle.select.specs.declared.Sel.{Sel}
 use Rattle.shift.specs.Answers.{Followed}
 use Rattle.frame.specs.Format.{text}
 use Rattle.frame.specs.Reads.{frameRead}
-use Rattle.step.specs.States.{State, textIn, bufferLimit, opening}
-use Rattle.step.specs.Steps.{Stepped, loaded, step}
+use Rattle.loading.specs.States.{State, textIn, bufferLimit, opening}
+use Rattle.loading.specs.Loads.{Stepped, loaded}
+use Rattle.step.specs.Steps.{step}
 use Rattle.step.proofs.Framing.{core, saw, text-step}
 
 -- the text stands in the buffer, of n places, and nothing else has changed

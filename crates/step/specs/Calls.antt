@@ -1,6 +1,6 @@
 -- What the functions of a step leave in the script's record and in the slices lent to them.
 use mathlib.Core.Bool.{true}
-use mathlib.Core.List.{List}
+use mathlib.Core.List.{List, map}
 use mathlib.Core.Path.{_≡_}
 use Prim.Native.Nat.{ℕ, _≤_}
 use lib.ListN.{length, take}
@@ -9,10 +9,12 @@ use Rattle.text.specs.Text.{textOk}
 use Rattle.edit.specs.declared.Applied.{Applied}
 use Rattle.edit.specs.Edits.{Whole, whole}
 use Rattle.place.specs.Places.{markLimit}
-use Rattle.step.specs.declared.Script.{Script}
-use Rattle.step.specs.declared.Progress.{Progress}
-use Rattle.step.specs.States.{State, scriptOf, stateOf, bufferLimit, flatMarks, marksIn}
-use Rattle.step.specs.Steps.{Stepped, step}
+use Rattle.marking.specs.FlatMarks.{flatMarks, marksIn}
+use Rattle.loading.specs.declared.Script.{Script}
+use Rattle.loading.specs.declared.Progress.{Progress}
+use Rattle.loading.specs.States.{State, scriptOf, stateOf, bufferLimit}
+use Rattle.loading.specs.Loads.{Stepped}
+use Rattle.step.specs.Steps.{carried, step}
 
 -- What holds between two lines: the text is admitted and in a buffer of at most 4,096, and the marks' slice has room for all marks and
 -- holds those that are kept.
@@ -42,19 +44,10 @@ leaves x m o =
 abbrev pub stepLeaves : Script → List ℕ → List ℕ → List ℕ → List ℕ → Left
 stepLeaves c l t m o = leaves (step (stateOf c t m) l) m o
 
+-- the marks' slice over an edit that is accepted
+abbrev pub carriedIn : State → Whole ℕ → List ℕ → List ℕ
+carriedIn s w m = over (flatMarks (map (carried s w) (s .marks))) m
+
 -- the inverse as an accepted call left it in slices
 abbrev pub inverseIn : Applied → List ℕ → List ℕ → List ℕ → Whole ℕ
 inverseIn a x f s = whole (a .inverse) (take (a .payload) x) (take (a .first) f) (take (a .second) s)
-
--- the same of a function that no marks are lent to
-pub record Part : Type 0 where
-  pub script : Script
-  pub printed : ℕ
-  pub text : List ℕ
-  pub out : List ℕ
-
-abbrev pub part : Progress → List ℕ → List ℕ → Part
-part r t o = record { script = r .script; printed = r .printed; text = t; out = o }
-
-abbrev pub partOf : Stepped → List ℕ → Part
-partOf x o = record { script = scriptOf (x .state); printed = length (x .printed); text = x .state .buffer; out = over (x .printed) o }

@@ -1,4 +1,3 @@
-pub mod States
 pub mod Steps
 pub mod Calls
-pub mod Carries
+pub mod Theorems

@@ -1,16 +1,8 @@
 -- A script line by line: what each line prints, and what the script has after it.
-use mathlib.Core.Bool.{cond, not}
-use mathlib.Core.List.{List, [], _∷_, _++_, map}
+use mathlib.Core.List.{List, _∷_, _++_, map}
 use Prim.Native.Nat.{ℕ}
-use lib.Dec.{ltb}
 use lib.ListN.{length, replicate}
 use Rattle.promise.specs.Paper.{Paper, done, refused}
-use Rattle.promise.specs.Slices.{over}
-use Rattle.text.specs.Rows.{at, earlier, later}
-use Rattle.text.specs.Text.{allAdmissible}
-use Rattle.edit.specs.declared.MotionKind.the-variants.{Char, Line, Block}
-use Rattle.edit.specs.declared.Edit.{Edit}
-use Rattle.edit.specs.declared.Edit.the-variants.{InsertChar, InsertStr, DeleteRange, JoinLines, SplitLines, Replace, InsertBlock, DeleteBlockChunks}
 use Rattle.edit.specs.declared.Applied.{Applied}
 use Rattle.edit.specs.Edits.{Whole, whole}
 use Rattle.edit.specs.Call.{Lent, lent, Outcome, applied}
@@ -18,47 +10,15 @@ use Rattle.edit.specs.Demand3.{returned}
 use Rattle.select.specs.declared.Sel.{Sel}
 use Rattle.shift.specs.Answers.{Followed, to, dropped}
 use Rattle.shift.specs.Call.{selShifted, kept}
-use Rattle.hex.specs.Digits.{hexed}
-use Rattle.frame.specs.Format.{Frame, text, mark, edit, frameBytes}
+use Rattle.frame.specs.Format.{Frame, text, edit, frameBytes}
 use Rattle.frame.specs.Reads.{readForm}
 use Rattle.place.specs.declared.Place.{Place}
 use Rattle.place.specs.Places.{judged, seen}
-use Rattle.step.specs.States.{State, state, textIn}
-
--- the script after a line, and what the line prints: nothing, or a line with its LF
-pub record Stepped : Type 0 where
-  pub state : State
-  pub printed : List ℕ
-
-abbrev pub stepped : State → List ℕ → Stepped
-stepped s o = record { state = s; printed = o }
-
-abbrev pub printedAs : List ℕ → List ℕ
-printedAs bytes = hexed bytes ++ (10 ∷ [])
-
--- "or the refusal byte"; "A malformed line prints 0a and is skipped"
-abbrev pub refuses : State → ℕ → Stepped
-refuses s n = stepped s (printedAs (n ∷ []))
-
--- "A text frame prints nothing unless refused: 5, 1 for an inadmissible value, 8 for over 4,096 characters; the text then stays empty."
-unfoldable pub loaded : State → List ℕ → Stepped
-loaded s cs =
-    cond (not (allAdmissible cs)) (refuses s 1)
-    (cond (ltb (length (s .buffer)) (length cs)) (refuses s 8)
-    (stepped (state (record { used = length cs; cursor = at 0 0; changes = s .view .changes }) (over cs (s .buffer)) (s .place) (s .marks)) []))
-
--- "orders Char, Line and Replace ends"
-unfoldable pub inOrder : Edit → Edit
-inOrder (InsertChar p) = InsertChar p
-inOrder (InsertStr p) = InsertStr p
-inOrder (DeleteRange p q Char) = DeleteRange (earlier p q) (later p q) Char
-inOrder (DeleteRange p q Line) = DeleteRange (earlier p q) (later p q) Line
-inOrder (DeleteRange p q Block) = DeleteRange p q Block
-inOrder (JoinLines r n b) = JoinLines r n b
-inOrder (SplitLines r) = SplitLines r
-inOrder (Replace p q) = Replace (earlier p q) (later p q)
-inOrder (InsertBlock p) = InsertBlock p
-inOrder (DeleteBlockChunks p) = DeleteBlockChunks p
+use Rattle.printing.specs.Prints.{printedAs}
+use Rattle.marking.specs.InOrder.{inOrder}
+use Rattle.marking.specs.MarkLines.{markLines}
+use Rattle.loading.specs.States.{State, state, textIn}
+use Rattle.loading.specs.Loads.{Stepped, stepped, refuses, framedBy}
 
 -- "applies with demand 3's record room": "a payload slice as long as the text buffer and 256 items in each list slice"
 abbrev pub lentTo : State → Whole ℕ → Lent
@@ -85,11 +45,8 @@ abbrev pub edited : State → Whole ℕ → Stepped
 edited s w = ran s (ordered w)
 
 -- what a frame in its place does, or the refusal of its line
-unfoldable pub framed : State → Paper Frame → Stepped
-framed s (done (text cs)) = loaded s cs
-framed s (done (mark m)) = stepped (state (s .view) (s .buffer) (s .place) (s .marks ++ (to m ∷ []))) []
-framed s (done (edit w)) = edited s w
-framed s (refused n k) = refuses s n
+abbrev pub framed : State → Paper Frame → Stepped
+framed s p = framedBy (edited s) s p
 
 abbrev pub sees : State → Place → State
 sees s p = state (s .view) (s .buffer) p (s .marks)
@@ -98,14 +55,6 @@ sees s p = state (s .view) (s .buffer) p (s .marks)
 unfoldable pub step : State → List ℕ → Stepped
 step s l = let g = judged (s .place) (textIn s) l in framed (sees s (seen (s .place) g)) (readForm g)
 
--- "at the end the text frame, then each mark, or 03 alone if dropped"
-unfoldable pub markLine : Followed Sel → List ℕ
-markLine (to m) = printedAs (frameBytes (mark m))
-markLine dropped = printedAs (0x03 ∷ [])
-
-unfoldable pub markLines : List (Followed Sel) → List ℕ
-markLines [] = []
-markLines (m ∷ ms) = markLine m ++ markLines ms
-
+-- "at the end the text frame, then each mark"
 unfoldable pub ending : State → List ℕ
 ending s = printedAs (frameBytes (text (textIn s))) ++ markLines (s .marks)

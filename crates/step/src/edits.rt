@@ -1,10 +1,4 @@
 // Edit frames.
-use crate::Progress;
-use crate::Script;
-use crate::ends::in_order;
-use crate::marking::carry_copy;
-use crate::prints::print_inverse;
-use crate::prints::refuse;
 use apply::apply_judged;
 use edit::Answer;
 use edit::Applied;
@@ -13,7 +7,13 @@ use edit::Refusal;
 use edit::Verdict;
 use frame::BYTE_LIMIT;
 use given::judge_admitted;
+use loading::Progress;
+use loading::Script;
+use loading::refuse;
+use marking::carry_copy;
+use marking::in_order;
 use place::Place;
+use printing::print_inverse;
 use reader::FrameRead;
 use reader::read;
 use splice::copy_in;
@@ -34,9 +34,10 @@ ghost use Rattle.frame.specs.Format.{edit as editFrame, frameBytes};
 ghost use Rattle.frame.specs.Forms.{headOf, lineForm};
 ghost use Rattle.frame.specs.Reads.{frameRead};
 ghost use Rattle.frame.specs.Inverses.{HasLine};
-ghost use Rattle.step.specs.States.{stateOf};
-ghost use Rattle.step.specs.Steps.{printedAs, lentTo, ran, edited, framed};
-ghost use Rattle.step.specs.Calls.{Ready, left, leaves, inverseIn};
+ghost use Rattle.printing.specs.Prints.{printedAs};
+ghost use Rattle.loading.specs.States.{stateOf};
+ghost use Rattle.step.specs.Steps.{lentTo, ran, edited, framed};
+ghost use Rattle.step.specs.Calls.{Ready, left, leaves, carriedIn, inverseIn};
 
 // What an accepted edit leaves beside its text: the marks over it, and the line of its inverse.
 fn accept(
@@ -65,35 +66,24 @@ fn accept(
     }
 }
 
-// Applies an edit that rows 1 to 4 do not refuse, and carries the marks over it if it is accepted.
-fn apply_frame(
+// Applies an edit that rows 1 to 4 do not refuse. `moved` has the marks over it.
+fn apply_moved(
     script: Script,
     edit: Edit,
     payload: &[u32],
     first: &[u32],
     second: &[u32],
+    moved: &[u32],
     text: &mut [u32],
     marks: &mut [u32],
     out: &mut [u8],
 ) -> Progress
-    requires { ⌜ Ready script (now text) (now marks) × (36_867 ≤ length (now out)) × (orderedOk edit ≡ true) × (verdictOf (givenTests (script .view) edit (lentTo (stateOf script (now text) (now marks)) (whole edit (now payload) (now first) (now second)))) ≡ done tt) ⌝ }
+    requires { ⌜ Ready script (now text) (now marks) × (36_867 ≤ length (now out)) × (verdictOf (givenTests (script .view) edit (lentTo (stateOf script (now text) (now marks)) (whole edit (now payload) (now first) (now second)))) ≡ done tt) × (now moved ≡ carriedIn (stateOf script (now text) (now marks)) (whole edit (now payload) (now first) (now second)) (now marks)) ⌝ }
     ensures { λ r. ⌜ left r (now (text .exit)) (now (marks .exit)) (now (out .exit)) ≡ leaves (ran (stateOf script (now (text .entry)) (now (marks .entry))) (whole edit (now (payload .entry)) (now (first .entry)) (now (second .entry)))) (now (marks .entry)) (now (out .entry)) ⌝ }
 {
     let view = script.view;
     let place = script.place;
-    let used = view.used;
-    let count = place.marks;
     let room = text.len();
-    let mut moved = [0u32; 320];
-    carry_copy(
-        &text[0..used],
-        edit,
-        payload,
-        first,
-        marks,
-        &mut moved,
-        count,
-    );
     let mut outpayload = [0u32; 4_096];
     let mut outfirst = [0u32; 256];
     let mut outsecond = [0u32; 256];
@@ -116,11 +106,52 @@ fn apply_frame(
             &outpayload,
             &outfirst,
             &outsecond,
-            &moved,
+            moved,
             marks,
             out,
         ),
     }
+}
+
+// Carries the marks over an edit that rows 1 to 4 do not refuse, and applies it.
+fn apply_frame(
+    script: Script,
+    edit: Edit,
+    payload: &[u32],
+    first: &[u32],
+    second: &[u32],
+    text: &mut [u32],
+    marks: &mut [u32],
+    out: &mut [u8],
+) -> Progress
+    requires { ⌜ Ready script (now text) (now marks) × (36_867 ≤ length (now out)) × (orderedOk edit ≡ true) × (verdictOf (givenTests (script .view) edit (lentTo (stateOf script (now text) (now marks)) (whole edit (now payload) (now first) (now second)))) ≡ done tt) ⌝ }
+    ensures { λ r. ⌜ left r (now (text .exit)) (now (marks .exit)) (now (out .exit)) ≡ leaves (ran (stateOf script (now (text .entry)) (now (marks .entry))) (whole edit (now (payload .entry)) (now (first .entry)) (now (second .entry)))) (now (marks .entry)) (now (out .entry)) ⌝ }
+{
+    let view = script.view;
+    let place = script.place;
+    let used = view.used;
+    let count = place.marks;
+    let mut moved = [0u32; 320];
+    carry_copy(
+        &text[0..used],
+        edit,
+        payload,
+        first,
+        marks,
+        &mut moved,
+        count,
+    );
+    apply_moved(
+        script,
+        edit,
+        payload,
+        first,
+        second,
+        &moved,
+        text,
+        marks,
+        out,
+    )
 }
 
 // An edit with its ends in order, judged.

@@ -1,28 +1,24 @@
 // A script, one line at a time.
 mod edits;
-mod ends;
-mod loads;
-mod marking;
-mod prints;
 
 use crate::edits::step_edit;
-use crate::loads::step_text;
-use crate::marking::keep_mark;
-use crate::prints::refuse;
 use edit::Refusal;
 use edit::View;
 use frame::Head;
-pub use marking::print_mark;
+use loading::Progress;
+use loading::Script;
+use loading::keep_mark;
+use loading::refuse;
+use loading::step_text;
 use place::Place;
 use place::judge;
-pub use prints::print_text;
 use text::Col;
 use text::Position;
 use text::Row;
 ghost use mathlib.Core.Path.{_≡_};
 ghost use Prim.Native.Nat.{_≤_};
 ghost use lib.ListN.{length};
-ghost use Rattle.step.specs.States.{scriptOf, opening};
+ghost use Rattle.loading.specs.States.{scriptOf, opening};
 ghost use Rattle.step.specs.Calls.{Ready, left, stepLeaves};
 
 // How long the slices are that a script is run on: its text's, its marks', and the room for what a line prints.
@@ -31,18 +27,6 @@ pub const TEXT_ROOM: usize = 4_096;
 pub const MARK_ROOM: usize = 320;
 
 pub const LINE_ROOM: usize = 36_867;
-
-// What a script has between two lines, beside the slices of its text and of its marks.
-pub struct Script {
-    pub view: View,
-    pub place: Place,
-}
-
-// The script after a line, and how much the line printed.
-pub struct Progress {
-    pub script: Script,
-    pub printed: usize,
-}
 
 // Before the first line.
 pub fn opening() -> Script

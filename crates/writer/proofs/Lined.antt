@@ -3,10 +3,9 @@ use mathlib.Core.Path.{_≡_, refl, sym, ap, _∙_}
 use mathlib.Core.Bool.{Bool, true, false, cond, not}
 use mathlib.Core.List.{List, [], _∷_, _++_}
 use Prim.Native.Nat.{ℕ, _+_, _-_, _≤_, _<_, min}
-use native.Mathlib.Decide.{decLe}
 use native.Mathlib.Nat.{sub-zero}
 use native.Mathlib.Omega.{arith}
-use borrow.Author.Tests.{ltb-true, ltb-false, not-true, not-false, le-leb, lt-leb, le-ltb, lt-ltb}
+use borrow.Author.Tests.{ltb-true, ltb-false, not-true, not-false, le-leb, lt-leb}
 use lib.Dec.{ltb}
 use lib.ListN.{length, take, drop, set, length-set, length-append, length-take, length-drop, drop-of-length-le}
 use lib.Seq.{paste, take-at}

@@ -1,5 +1,7 @@
+use mathlib.Core.Path.{ap, _∙_}
 use borrow.Author.Needs.{needs}
-use Rattle.place.proofs.LineForms.{count-within, line-read, line-bad, line-roomy}
+use Rattle.frame.specs.Forms.{headOf}
+use Rattle.frame.proofs.LineForms.{count-within, line-read, line-bad, line-roomy}
 use Rattle.place.proofs.line_head.Statement.{statement}
 use Rattle.place.proofs.line_head.Tie as tie
 
@@ -31,13 +33,14 @@ enum-told-2 : tie.Need-enum-told-2
 enum-told-2 c = search needs
 
 returns : tie.Need-returns
-returns c = line-read (c .before .before .before .before .before .before .before .before .before .before .args .line .now) _ _ (c .before .before .before .before .before .before .before .unhex .result) (c .before .before .before .before .before .before .before .unhex .ensures) _ (c .before .before .before .before .unhexed .given .1) (c .head-of .result) (c .head-of .ensures)
+returns c = c .head-of .ensures ∙ ap headOf (line-read (c .before .before .before .before .before .before .before .before .before .before .args .line .now) _ _ (c .before .before .before .before .before .before .before .unhex .result) (c .before .before .before .before .before .before .before .unhex .ensures) _ (c .before .before .before .before .unhexed .given .1))
 
 returns-2 : tie.Need-returns-2
-returns-2 c = line-bad (c .before .before .before .before .before .before .args .line .now) _ _ (c .before .before .before .unhex .result) (c .before .before .before .unhex .ensures) (c .enum-told .given .1)
+unfolding headOf
+returns-2 c = ap headOf (line-bad (c .before .before .before .before .before .before .args .line .now) _ _ (c .before .before .before .unhex .result) (c .before .before .before .unhex .ensures) (c .enum-told .given .1))
 
 returns-3 : tie.Need-returns-3
-returns-3 c = line-roomy (c .before .before .before .before .before .before .args .line .now) _ _ (c .before .before .before .unhex .result) (c .before .before .before .unhex .ensures) (slice-aggregate-unhex (c .before .before .before .before)) (c .enum-told2 .given .1)
+returns-3 c = absurd (line-roomy (c .before .before .before .before .before .before .args .line .now) _ _ (c .before .before .before .unhex .result) (c .before .before .before .unhex .ensures) (search needs) (c .enum-told2 .given .1))
 
 pub line-head-spec : {M : Type 1} → statement M
 line-head-spec =

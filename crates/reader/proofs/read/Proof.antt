@@ -1,9 +1,9 @@
-use mathlib.Core.Path.{refl}
-use native.Mathlib.Omega.{arith}
+use mathlib.Core.Path.{refl, ap}
 use borrow.Author.Needs.{needs}
+use Rattle.frame.specs.Reads.{readForm}
+use Rattle.frame.proofs.LineForms.{count-within, line-read, line-bad, line-roomy}
 use Rattle.reader.specs.Calls.{readInto}
 use Rattle.reader.proofs.Frames.{read-by}
-use Rattle.reader.proofs.Unhexes.{line-read, line-bad, line-fits}
 use Rattle.reader.proofs.read.Statement.{statement}
 use Rattle.reader.proofs.read.Tie as tie
 
@@ -23,7 +23,7 @@ part-read-bytes-start : tie.Need-part-read-bytes-start
 part-read-bytes-start c = search needs
 
 part-read-bytes-end : tie.Need-part-read-bytes-end
-part-read-bytes-end c = let g = c .before .before .unhexed .given in let w = line-read (c .before .before .before .before .before .before .before .before .before .before .before .args .line .now) _ _ (g .0 .0) (rw (g .1) at (c .before .before .before .before .before .unhex .ensures)) in omega arith
+part-read-bytes-end c = let g = c .before .before .unhexed .given in let u = c .before .before .before .before .before .unhex in count-within (c .before .before .before .before .before .before .before .before .before .before .before .args .line .now) _ _ (u .result) (u .ensures) (g .0 .0) (g .1)
 
 read-bytes-requires : tie.Need-read-bytes-requires
 read-bytes-requires c κs = search needs
@@ -44,14 +44,14 @@ same-length-3 : tie.Need-same-length-3
 same-length-3 c = search needs
 
 returns : tie.Need-returns
-returns c = let a = c .before .before .before .before .before .before .before .before .before .before .before .before .before .before .before .before .before .before .before .before .before .before .args in let g = c .before .before .before .before .before .before .before .before .before .before .before .before .before .unhexed .given in read-by _ _ _ (a .payload .now) (a .first .now) (a .second .now) (c .before .before .before .before .before .before .read-bytes .ensures) (line-read (a .line .now) _ _ (g .0 .0) (rw (g .1) at (c .before .before .before .before .before .before .before .before .before .before .before .before .before .before .before .before .unhex .ensures)) .1)
+returns c = let a = c .before .before .before .before .before .before .before .before .before .before .before .before .before .before .before .before .before .before .before .before .before .before .args in let g = c .before .before .before .before .before .before .before .before .before .before .before .before .before .unhexed .given in read-by _ _ _ (a .payload .now) (a .first .now) (a .second .now) (c .before .before .before .before .before .before .read-bytes .ensures) (ap readForm (line-read (a .line .now) _ _ (c .before .before .before .before .before .before .before .before .before .before .before .before .before .before .before .before .unhex .result) (c .before .before .before .before .before .before .before .before .before .before .before .before .before .before .before .before .unhex .ensures) (g .0 .0) (g .1)))
 
 returns-2 : tie.Need-returns-2
-unfolding readInto
-returns-2 c = let a = c .before .before .before .before .before .before .before .before .before .args in read-by _ _ _ (a .payload .now) (a .first .now) (a .second .now) refl (line-bad (a .line .now) _ _ (rw (c .enum-told .given .1) at (c .before .before .before .unhex .ensures)))
+unfolding readInto readForm
+returns-2 c = let a = c .before .before .before .before .before .before .before .before .before .args in read-by _ _ _ (a .payload .now) (a .first .now) (a .second .now) refl (ap readForm (line-bad (a .line .now) _ _ (c .before .before .before .unhex .result) (c .before .before .before .unhex .ensures) (c .enum-told .given .1)))
 
 returns-3 : tie.Need-returns-3
-returns-3 c = let a = c .before .before .before .before .before .before .before .before .before .args in absurd (line-fits (a .line .now) _ _ (search needs) (rw (c .enum-told2 .given .1) at (c .before .before .before .unhex .ensures)))
+returns-3 c = let a = c .before .before .before .before .before .before .before .before .before .args in absurd (line-roomy (a .line .now) _ _ (c .before .before .before .unhex .result) (c .before .before .before .unhex .ensures) (search needs) (c .enum-told2 .given .1))
 
 pub read-spec : {M : Type 1} → statement M
 read-spec =

@@ -1,7 +1,7 @@
 use mathlib.Core.List.{[]}
 use borrow.Author.Tests.{not-true, not-false}
 use borrow.Author.Needs.{needs}
-use Rattle.step.specs.States.{stateOf}
+use Rattle.loading.specs.States.{stateOf}
 use Rattle.step.specs.Steps.{ending}
 use Rattle.script.specs.Scripts.{output}
 use Rattle.script.proofs.Twice.{opens-ready, opens-run}

@@ -1,4 +1,4 @@
-use Rattle.step.specs.States.{markIn}
+use Rattle.marking.specs.FlatMarks.{markIn}
 use Rattle.script.proofs.Endings.{mark-short}
 use mathlib.Core.Path.{_≡_}
 use Prim.Native.Nat.{_≤_, _+_, _-_, _*_}

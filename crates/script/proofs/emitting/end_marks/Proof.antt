@@ -5,8 +5,8 @@ use native.Mathlib.Omega.{arith}
 use borrow.Author.Tests.{not-true, not-false}
 use borrow.Author.Needs.{needs}
 use lib.ListN.{length, take, drop}
-use Rattle.step.specs.States.{markIn, marksIn}
-use Rattle.step.specs.Steps.{markLines}
+use Rattle.marking.specs.FlatMarks.{markIn, marksIn}
+use Rattle.marking.specs.MarkLines.{markLines}
 use Rattle.script.specs.Courses.{Going}
 use Rattle.script.proofs.Endings.{mark-short, marks-over, none-yet, mark-coming}
 use Rattle.script.proofs.Goings.{ends-as, stays-long}

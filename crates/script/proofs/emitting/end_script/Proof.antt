@@ -2,8 +2,8 @@ use mathlib.Core.List.{[]}
 use native.Mathlib.Omega.{arith}
 use borrow.Author.Tests.{not-true, not-false}
 use borrow.Author.Needs.{needs}
-use Rattle.step.specs.Steps.{markLines}
-use Rattle.step.specs.States.{marksIn}
+use Rattle.marking.specs.FlatMarks.{marksIn}
+use Rattle.marking.specs.MarkLines.{markLines}
 use Rattle.script.proofs.Endings.{text-line, text-within, text-coming}
 use Rattle.script.proofs.Goings.{stays-long}
 use Rattle.script.proofs.emitting.end_script.Statement.{statement}

@@ -6,7 +6,7 @@ use borrow.Author.Needs.{needs}
 use lib.ListN.{length, take, drop}
 use Rattle.text.specs.Rows.{lines}
 use Rattle.text.specs.Text.{isLF}
-use Rattle.step.specs.States.{stateOf}
+use Rattle.loading.specs.States.{stateOf}
 use Rattle.step.specs.Calls.{Ready}
 use Rattle.script.specs.Scripts.{run}
 use Rattle.script.specs.Courses.{Going}

@@ -1,6 +1,6 @@
 use mathlib.Core.Path.{refl, _∙_}
 use borrow.Author.Needs.{needs}
-use Rattle.step.proofs.Carrying.{copied}
+use Rattle.marking.proofs.Carrying.{copied}
 use Rattle.step.proofs.EditLeaves.{fronts-line, fronts-printed}
 use Rattle.step.proofs.edits.accept.Statement.{statement}
 use Rattle.step.proofs.edits.accept.Tie as tie

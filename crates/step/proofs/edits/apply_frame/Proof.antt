@@ -1,8 +1,7 @@
-use mathlib.Core.Path.{refl, sym, ap}
+use mathlib.Core.Path.{refl}
 use borrow.Author.Needs.{needs}
-use Rattle.edit.specs.Call.{paperAnswer}
 use Rattle.edit.specs.Edits.{whole}
-use Rattle.step.proofs.EditLeaves.{text-fits, carry-asked, back-long, accept-asked, moved-long, refused-leaves, text-long, accepted-leaves}
+use Rattle.step.proofs.EditLeaves.{text-fits, carry-asked, carried-over}
 use Rattle.step.proofs.edits.apply_frame.Statement.{statement}
 use Rattle.step.proofs.edits.apply_frame.Tie as tie
 
@@ -21,47 +20,11 @@ slice-aggregate-carry-copy c = search needs
 carry-copy-requires : tie.Need-carry-copy-requires
 carry-copy-requires c κs = let a = c .before .before .before .before .before .before .before .before .before .before .before .before .args in let p = c .before .before .before .before .before .before .before .before .before .before .before .before .pre in let k = carry-asked (a .script) (a .text .now) (a .marks .now) (p .0) (whole (a .edit) (a .payload .now) (a .first .now) (a .second .now)) (p .3) in (text-fits (a .script) (a .text .now) (a .marks .now) (p .0) .1, k .0, k .1, p .2, p .0 .few, p .0 .room, refl, p .0 .hold)
 
-sub-apply-judged : tie.Need-sub-apply-judged
-sub-apply-judged c = search needs
+slice-aggregate-apply-moved : tie.Need-slice-aggregate-apply-moved
+slice-aggregate-apply-moved c = search needs
 
-part-outpayload-start : tie.Need-part-outpayload-start
-part-outpayload-start c = search needs
-
-part-outpayload-end : tie.Need-part-outpayload-end
-part-outpayload-end c = search needs
-
-slice-aggregate-apply-judged : tie.Need-slice-aggregate-apply-judged
-slice-aggregate-apply-judged c = search needs
-
-slice-aggregate-apply-judged-2 : tie.Need-slice-aggregate-apply-judged-2
-slice-aggregate-apply-judged-2 c = search needs
-
-apply-judged-requires : tie.Need-apply-judged-requires
-apply-judged-requires c κs = search needs
-
-enum-known-answer : tie.Need-enum-known-answer
-enum-known-answer c = search needs
-
-refuse-requires : tie.Need-refuse-requires
-refuse-requires c κs = search needs
-
-enum-known-answer-2 : tie.Need-enum-known-answer-2
-enum-known-answer-2 c = search needs
-
-slice-aggregate-accept : tie.Need-slice-aggregate-accept
-slice-aggregate-accept c = let a = c .before .before .before .before .before .before .before .before .before .before .before .before .before .before .before .before .before .before .before .before .before .before .before .before .before .before .before .before .args in let p = c .before .before .before .before .before .before .before .before .before .before .before .before .before .before .before .before .before .before .before .before .before .before .before .before .before .before .before .before .pre in sym (back-long (a .script) (a .text .now) (a .marks .now) (p .0) (whole (a .edit) (a .payload .now) (a .first .now) (a .second .now)) _ _ _ _ _ (c .before .before .before .before .before .before .before .before .before .apply-judged .ensures))
-
-slice-aggregate-accept-2 : tie.Need-slice-aggregate-accept-2
-slice-aggregate-accept-2 c = search needs
-
-slice-aggregate-accept-3 : tie.Need-slice-aggregate-accept-3
-slice-aggregate-accept-3 c = search needs
-
-slice-aggregate-accept-4 : tie.Need-slice-aggregate-accept-4
-slice-aggregate-accept-4 c = search needs
-
-accept-requires : tie.Need-accept-requires
-accept-requires c κs = let a = c .before .before .before .before .before .before .before .before .before .before .before .before .before .before .before .before .before .before .before .before .before .before .before .before .before .before .before .before .before .before .before .before .before .args in let p = c .before .before .before .before .before .before .before .before .before .before .before .before .before .before .before .before .before .before .before .before .before .before .before .before .before .before .before .before .before .before .before .before .before .pre in let k = accept-asked (a .script) (a .text .now) (a .marks .now) (p .0) (whole (a .edit) (a .payload .now) (a .first .now) (a .second .now)) _ _ _ _ _ (c .before .before .before .before .before .before .before .before .before .before .before .before .before .before .apply-judged .ensures) (c .before .before .before .before .before .before .before .answer2 .given .0 .0) (ap paperAnswer (c .before .before .before .before .before .before .before .answer2 .given .1)) in (moved-long (a .script) (a .text .now) (a .marks .now) (p .0) (whole (a .edit) (a .payload .now) (a .first .now) (a .second .now)) _ _ _ _ _ (c .before .before .before .before .before .before .before .before .before .before .before .before .before .before .apply-judged .ensures) (c .before .before .before .before .before .before .before .answer2 .given .0 .0) (ap paperAnswer (c .before .before .before .before .before .before .before .answer2 .given .1)) (p .3) (p .2) _ (c .before .before .before .before .before .before .before .before .before .before .before .before .before .before .before .before .before .before .before .before .carry-copy .ensures), p .1, k .0, k .1, k .2, k .3)
+apply-moved-requires : tie.Need-apply-moved-requires
+apply-moved-requires c κs = let a = c .before .before .before .before .before .before .before .before .before .before .before .before .before .before .before .before .before .before .args in let p = c .before .before .before .before .before .before .before .before .before .before .before .before .before .before .before .before .before .before .pre in (p .0, p .1, p .3, carried-over (a .script) (a .text .now) (a .marks .now) (p .0) (whole (a .edit) (a .payload .now) (a .first .now) (a .second .now)) (p .3) (p .2) _ (c .before .before .before .before .before .carry-copy .ensures))
 
 same-length : tie.Need-same-length
 same-length c = search needs
@@ -73,19 +36,7 @@ same-length-3 : tie.Need-same-length-3
 same-length-3 c = search needs
 
 returns : tie.Need-returns
-returns c = let a = c .before .before .before .before .before .before .before .before .before .before .before .before .before .before .before .before .before .before .before .before .before .before .before .before .before .before .before .before .before .before .before .args in let p = c .before .before .before .before .before .before .before .before .before .before .before .before .before .before .before .before .before .before .before .before .before .before .before .before .before .before .before .before .before .before .before .pre in refused-leaves (a .script) (a .text .now) (a .marks .now) (p .0) (whole (a .edit) (a .payload .now) (a .first .now) (a .second .now)) _ _ _ _ _ (c .before .before .before .before .before .before .before .before .before .before .before .before .apply-judged .ensures) _ _ (ap paperAnswer (c .before .before .before .before .before .answer .given .1)) _ _ _ (c .before .before .refuse .ensures)
-
-same-length-4 : tie.Need-same-length-4
-same-length-4 c = let a = c .before .before .before .before .before .before .before .before .before .before .before .before .before .before .before .before .before .before .before .before .before .before .before .before .before .before .before .before .before .before .before .before .before .before .before .before .before .before .args in let p = c .before .before .before .before .before .before .before .before .before .before .before .before .before .before .before .before .before .before .before .before .before .before .before .before .before .before .before .before .before .before .before .before .before .before .before .before .before .before .pre in text-long (a .script) (a .text .now) (a .marks .now) (p .0) (whole (a .edit) (a .payload .now) (a .first .now) (a .second .now)) _ _ _ _ _ (c .before .before .before .before .before .before .before .before .before .before .before .before .before .before .before .before .before .before .before .apply-judged .ensures)
-
-same-length-5 : tie.Need-same-length-5
-same-length-5 c = search needs
-
-same-length-6 : tie.Need-same-length-6
-same-length-6 c = search needs
-
-returns-2 : tie.Need-returns-2
-returns-2 c = let a = c .before .before .before .before .before .before .before .before .before .before .before .before .before .before .before .before .before .before .before .before .before .before .before .before .before .before .before .before .before .before .before .before .before .before .before .before .before .before .args in let p = c .before .before .before .before .before .before .before .before .before .before .before .before .before .before .before .before .before .before .before .before .before .before .before .before .before .before .before .before .before .before .before .before .before .before .before .before .before .before .pre in accepted-leaves (a .script) (a .text .now) (a .marks .now) (p .0) (whole (a .edit) (a .payload .now) (a .first .now) (a .second .now)) _ _ _ _ _ (c .before .before .before .before .before .before .before .before .before .before .before .before .before .before .before .before .before .before .before .apply-judged .ensures) (c .before .before .before .before .before .before .before .before .before .before .before .before .answer2 .given .0 .0) (ap paperAnswer (c .before .before .before .before .before .before .before .before .before .before .before .before .answer2 .given .1)) (p .3) (p .2) _ (c .before .before .before .before .before .before .before .before .before .before .before .before .before .before .before .before .before .before .before .before .before .before .before .before .before .carry-copy .ensures) _ _ _ _ (c .before .before .before .before .accept .ensures)
+returns c = c .before .before .before .before .before .before .apply-moved .ensures
 
 pub apply-frame-spec : {M : Type 1} → statement M
 apply-frame-spec =
@@ -96,25 +47,9 @@ apply-frame-spec =
     part-carry-copy-end
     slice-aggregate-carry-copy
     carry-copy-requires
-    sub-apply-judged
-    part-outpayload-start
-    part-outpayload-end
-    slice-aggregate-apply-judged
-    slice-aggregate-apply-judged-2
-    apply-judged-requires
-    enum-known-answer
-    refuse-requires
-    enum-known-answer-2
-    slice-aggregate-accept
-    slice-aggregate-accept-2
-    slice-aggregate-accept-3
-    slice-aggregate-accept-4
-    accept-requires
+    slice-aggregate-apply-moved
+    apply-moved-requires
     same-length
     same-length-2
     same-length-3
-    returns
-    same-length-4
-    same-length-5
-    same-length-6
-    returns-2)
+    returns)

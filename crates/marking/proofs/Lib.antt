@@ -1,0 +1,4 @@
+pub mod Orders
+pub mod FlatMarks
+pub mod Carrying
+pub mod MarkLines

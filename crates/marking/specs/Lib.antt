@@ -1,0 +1,4 @@
+pub mod FlatMarks
+pub mod Carries
+pub mod InOrder
+pub mod MarkLines
