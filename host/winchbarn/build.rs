@@ -1,7 +1,7 @@
 //! Links the archive of the proved core.
 
 use std::env;
-use std::path::PathBuf;
+use std::path::{self, PathBuf};
 use std::process::exit;
 
 const ARCHIVE: &str = "libwinchbarn.a";
@@ -17,7 +17,7 @@ fn library_dir() -> PathBuf {
 
 fn main() {
     println!("cargo:rerun-if-env-changed=WINCHBARN_LIB_DIR");
-    let dir = library_dir();
+    let dir = path::absolute(library_dir()).unwrap();
     let archive = dir.join(ARCHIVE);
     println!("cargo:rerun-if-changed={}", archive.display());
     if !archive.is_file() {

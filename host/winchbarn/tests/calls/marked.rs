@@ -39,6 +39,13 @@ fn examples_1_and_2_rows() {
 }
 
 #[test]
+fn a_position_in_the_text_stays_and_one_past_its_row_goes_to_the_row_end() {
+    let text = scalars("ab\ncd\nef");
+    assert_eq!(clamp_position(&text, text.len(), at(1, 1)), Ok(at(1, 1)));
+    assert_eq!(clamp_position(&text, text.len(), at(1, 9)), Ok(at(1, 2)));
+}
+
+#[test]
 fn example_3_a_script() {
     let mut out = [b'.'; 200];
     let written = run_script(INSERT_SCRIPT, &mut out).unwrap();
