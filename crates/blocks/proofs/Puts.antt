@@ -1,5 +1,5 @@
 -- One chunk of a block put in, and then the others.
-use mathlib.Core.Path.{_≡_, sym, _∙_}
+use mathlib.Core.Path.{_≡_, _∙_}
 use mathlib.Core.List.{List, _∷_, _++_, append-assoc, append-nil}
 use Prim.Native.Nat.{ℕ, zero, suc, _+_, _-_, _≤_, _<_, min}
 use native.Mathlib.Nat.{sub-eq-zero-of-le, min-eq-left, min-eq-right}
@@ -10,19 +10,17 @@ use lib.Seq.{take-all, take-length, drop-length}
 use Rattle.text.specs.Rows.{Line, line, lines, charAt, at, rowCount, lastRow, rowLen, rowStart, offset, spliced}
 use Rattle.text.specs.Text.{isLF, all}
 use Rattle.promise.proofs.Lists.{next}
-use Rattle.text.proofs.Laws.{count-last}
 use Rattle.text.proofs.Alls.{all-append}
 use Rattle.text.proofs.Ended.{notLF, Plain}
 use Rattle.text.proofs.Changes.{rowOf, row-from}
-use Rattle.text.proofs.Spots.{offset-row, row-within}
+use Rattle.text.proofs.Spots.{offset-row}
 use Rattle.edit.specs.Edits.{Edited, put, putAll, padsOf, pieces, blockInserted}
 use Rattle.edit.specs.Refusals.{isSpace, spaces}
 use Rattle.edit.proofs.Blocks.{padsOf-length, pieces-length}
 use Rattle.edit.proofs.Sizes.{growth}
-use Rattle.blocks.specs.declared.Put.{Put}
 use Rattle.blocks.specs.Blocks.{putAt}
 use Rattle.text.proofs.Turns.{newRow, Turned, below-turned, count-turned, from-turned}
-use Rattle.blocks.proofs.Starts.{Begins, scan-row, start-turned, start-next}
+use Rattle.blocks.proofs.Starts.{scan-row, start-turned}
 
 abbrev pub inserted : List ℕ → ℕ → ℕ → List ℕ → List ℕ → Edited ℕ
 inserted t r c x ns = blockInserted isLF isSpace spaces t (at r c) x ns
@@ -47,9 +45,6 @@ plain-spaces : (n : ℕ) → Plain (replicate n 32)
 unfolding all
 plain-spaces zero = tt
 plain-spaces (suc n) = plain-spaces n
-
-pub row-there : (t : List ℕ) (r k n : ℕ) → k < n → n ≤ rowCount isLF t - r → r + k ≤ lastRow isLF t
-row-there t r k n h l = omega (arith, count-last isLF t)
 
 -- where a chunk goes in; n and m are what the code makes of the row
 pub put-found : (t : List ℕ) (s c r n m : ℕ) → r ≤ lastRow isLF t → s ≡ rowStart isLF t r → n ≡ rowLen isLF (take (length t - s) (drop s t)) 0 → m ≡ min c n
@@ -115,14 +110,3 @@ growth-next t r c k ns h l =
 pub growth-end : (c k : ℕ) (ns : List ℕ) (rs : List (Line ℕ)) → length ns ≤ k → growth c (drop k ns) rs ≡ 0
 unfolding growth
 growth-end c k ns rs h = rw (drop-of-length-le ns h)
-
--- ---- the start of each row, in a loop over n rows from r on that changes none
-
-module _ (t : List ℕ) (r k c : ℕ) (put : Put) (e : put ≡ putAt t (at (r + k) c)) where
-  pub end-within : put .end .0 ≤ length t
-  end-within = rw e (row-within isLF t (r + k))
-
-  pub begins-next : (n : ℕ) → n ≤ rowCount isLF t - r → Begins t r n (k + 1) (put .end .0 + 1)
-  begins-next n h m =
-      let o : r + (k + 1) ≡ suc (r + k) = omega arith in
-      rw (e, o) (sym (start-next t (r + k) (omega (arith, row-there t r (k + 1) n m h))))

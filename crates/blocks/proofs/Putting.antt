@@ -21,8 +21,8 @@ use Rattle.edit.specs.Refusals.{sum}
 use Rattle.edit.proofs.Sizes.{blockInserted-length}
 use Rattle.blocks.specs.declared.Put.{Put}
 use Rattle.blocks.specs.Blocks.{putAt, Left, left, leftBy}
-use Rattle.blocks.proofs.Starts.{Begins, begins-first}
-use Rattle.blocks.proofs.Puts.{inserted, pads-length, padAt, put-text, put-pads, put-count, put-start, end-within}
+use Rattle.blocks.proofs.Starts.{Begins, begins-first, end-within}
+use Rattle.blocks.proofs.Puts.{inserted, pads-length, padAt, put-text, put-pads, put-count, put-start}
 
 pub record Putting (b₀ : List ℕ) (used r c : ℕ) (x ns q₀ b q : List ℕ) (long start from k : ℕ) : Type 0 where
   pub within : k ≤ length ns
@@ -175,7 +175,7 @@ module _ {b₀ : List ℕ} {used r c : ℕ} {x ns q₀ b q : List ℕ} {long sta
       next-limit = rw put-here (omega (arith, turn-room b₀ used r c x ns q₀ b q long start from k s h row-now p))
 
       pub start-limit : put .end .0 + (put .pad + getD ns k 0) ≤ 16_384
-      start-limit = omega (arith, next-limit, end-within (take long b) r k c put put-here, length-take long b)
+      start-limit = omega (arith, next-limit, end-within (take long b) r k _ (ap (λ (z : Put). z .end .0) put-here), length-take long b)
 
       pub open-asked : (put .at .0 ≤ long) × (long + (put .pad + length (take (from + getD ns k 0 - from) (drop from x))) ≤ length b)
       open-asked =

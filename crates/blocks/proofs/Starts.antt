@@ -9,6 +9,7 @@ use Rattle.promise.proofs.Lists.{tail-whole}
 use Rattle.text.specs.Rows.{lines, unlines, rowCount, lastRow, rowLen, rowStart, spliced}
 use Rattle.text.specs.Text.{isLF, all}
 use Rattle.text.proofs.Laws.{row-at, len-le, count-last}
+use Rattle.text.proofs.Spots.{row-within}
 use Rattle.text.proofs.Ended.{Plain, ended-at, unlines-append}
 use Rattle.text.proofs.Changes.{rowOf, rows-below, row-exists}
 use Rattle.text.proofs.Turns.{newRow, Turned, from-turned}
@@ -52,9 +53,24 @@ pub start-next : (t : List ℕ) (r : ℕ) → r < lastRow isLF t → rowStart is
 start-next t r h =
     start-turned t r 0 0 [] h (omega arith) (omega arith) plain-none t (sym (take-append-drop (rowStart isLF t r + 0) t)) ∙ omega arith
 
--- a loop over n rows from r on is at its k-th, which starts at s
+-- ---- a loop over n rows from r on
+
+pub row-there : (t : List ℕ) (r k n : ℕ) → k < n → n ≤ rowCount isLF t - r → r + k ≤ lastRow isLF t
+row-there t r k n h l = omega (arith, count-last isLF t)
+
+-- it is at its k-th row, which starts at s
 abbrev pub Begins : List ℕ → ℕ → ℕ → ℕ → ℕ → Type 0
 Begins t r n k s = k < n → s ≡ rowStart isLF t (r + k)
 
 pub begins-first : (t : List ℕ) (r n s : ℕ) → s ≡ rowStart isLF t r → Begins t r n 0 s
 begins-first t r n s e m = e ∙ rw add-zero
+
+-- the row ends at e
+module _ (t : List ℕ) (r k e : ℕ) (q : e ≡ rowStart isLF t (r + k) + rowLen isLF t (r + k)) where
+  pub end-within : e ≤ length t
+  end-within = rw q (row-within isLF t (r + k))
+
+  pub begins-next : (n : ℕ) → n ≤ rowCount isLF t - r → Begins t r n (k + 1) (e + 1)
+  begins-next n h m =
+      let o : r + (k + 1) ≡ suc (r + k) = omega arith in
+      rw (q, o) (sym (start-next t (r + k) (omega (arith, row-there t r (k + 1) n m h))))

@@ -6,8 +6,8 @@ use Rattle.text.specs.Text.{isLF}
 use Rattle.text.specs.Rows.{lines}
 use Rattle.edit.proofs.Sizes.{growth, blockInserted-length}
 use Rattle.blocks.specs.declared.Put.{Put}
-use Rattle.blocks.proofs.Starts.{Begins, begins-first}
-use Rattle.blocks.proofs.Puts.{padAt, growth-next, growth-end, row-there, end-within, begins-next}
+use Rattle.blocks.proofs.Starts.{Begins, begins-first, row-there, end-within, begins-next}
+use Rattle.blocks.proofs.Puts.{padAt, growth-next, growth-end}
 use native.Mathlib.Omega.{arith}
 use borrow.Author.Needs.{needs}
 use Rattle.blocks.proofs.put_size.Statement.{statement}
@@ -57,7 +57,7 @@ add-size-2 : tie.Need-add-size-2 Inv-loop μ-loop
 add-size-2 c = omega (arith, c .shared-slice-known3 .given (c .before .before .before .before .loop .k))
 
 add-start : tie.Need-add-start Inv-loop μ-loop
-add-start c = let a = c .before .before .before .before .before .before .before .before .before .before .args in omega (arith, end-within (a .text .now) (a .at .row .0) (c .before .before .before .before .before .loop .k) (a .at .col .0) _ (c .before .before .before .put-splice .ensures), c .before .before .before .before .before .before .before .before .before .before .pre .0)
+add-start c = let a = c .before .before .before .before .before .before .before .before .before .before .args in omega (arith, end-within (a .text .now) (a .at .row .0) (c .before .before .before .before .before .loop .k) _ (ap (λ (p : Put). p .end .0) (c .before .before .before .put-splice .ensures)), c .before .before .before .before .before .before .before .before .before .before .pre .0)
 
 add-k : tie.Need-add-k Inv-loop μ-loop
 add-k c = search needs
@@ -66,7 +66,7 @@ loop-less : tie.Need-loop-less Inv-loop μ-loop
 loop-less c = search needs
 
 loop-again : tie.Need-loop-again Inv-loop μ-loop
-loop-again c = let a = c .before .before .before .before .before .before .before .before .before .before .args in let l = c .before .before .before .before .before .loop in let q = c .before .before .before .put-splice .result .pad in let e : q ≡ padAt (a .text .now) (a .at .row .0 + l .k) (a .at .col .0) = ap (λ (p : Put). p .pad) (c .before .before .before .put-splice .ensures) in (omega arith, omega (arith, c .before .before .struct-known .given, c .before .shared-slice-known3 .given (l .k)), omega (arith, l .inv .2, e, growth-next (a .text .now) (a .at .row .0) (a .at .col .0) (l .k) (a .lens .now) (c .before .before .before .before .loop-test .taken) (row-there (a .text .now) (a .at .row .0) (l .k) (length (a .lens .now)) (c .before .before .before .before .loop-test .taken) (c .before .before .before .before .before .before .before .before .before .before .pre .3))), begins-next (a .text .now) (a .at .row .0) (l .k) (a .at .col .0) _ (c .before .before .before .put-splice .ensures) (length (a .lens .now)) (c .before .before .before .before .before .before .before .before .before .before .pre .3))
+loop-again c = let a = c .before .before .before .before .before .before .before .before .before .before .args in let l = c .before .before .before .before .before .loop in let q = c .before .before .before .put-splice .result .pad in let e : q ≡ padAt (a .text .now) (a .at .row .0 + l .k) (a .at .col .0) = ap (λ (p : Put). p .pad) (c .before .before .before .put-splice .ensures) in (omega arith, omega (arith, c .before .before .struct-known .given, c .before .shared-slice-known3 .given (l .k)), omega (arith, l .inv .2, e, growth-next (a .text .now) (a .at .row .0) (a .at .col .0) (l .k) (a .lens .now) (c .before .before .before .before .loop-test .taken) (row-there (a .text .now) (a .at .row .0) (l .k) (length (a .lens .now)) (c .before .before .before .before .loop-test .taken) (c .before .before .before .before .before .before .before .before .before .before .pre .3))), begins-next (a .text .now) (a .at .row .0) (l .k) _ (ap (λ (p : Put). p .end .0) (c .before .before .before .put-splice .ensures)) (length (a .lens .now)) (c .before .before .before .before .before .before .before .before .before .before .pre .3))
 
 returns : tie.Need-returns Inv-loop μ-loop
 returns c = let a = c .before .before .before .before .before .before .args in let l = c .before .loop in λ x h. omega (arith, l .inv .2, growth-end (a .at .col .0) (l .k) (a .lens .now) (drop (a .at .row .0 + l .k) (lines isLF (a .text .now))) (omega arith), blockInserted-length (a .text .now) (a .at) x (a .lens .now) h)
