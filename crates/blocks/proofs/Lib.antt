@@ -1,3 +1,4 @@
+pub mod Starts
 pub mod Puts
 pub mod Putting
 pub mod Reached

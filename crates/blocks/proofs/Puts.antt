@@ -7,12 +7,9 @@ use native.Mathlib.Decide.{decLe}
 use native.Mathlib.Omega.{arith}
 use lib.ListN.{length, take, drop, getD, replicate, length-append, length-replicate, drop-of-length-le}
 use lib.Seq.{take-all, take-length, drop-length}
-use Rattle.text.specs.declared.Position.{Position}
-use Rattle.text.specs.declared.Place.{Place}
-use Rattle.text.specs.Rows.{place, Line, line, lines, at, rowCount, lastRow, rowLen, clamp, offset, spliced}
+use Rattle.text.specs.Rows.{Line, line, lines, charAt, at, rowCount, lastRow, rowLen, rowStart, offset, spliced}
 use Rattle.text.specs.Text.{isLF, all}
 use Rattle.promise.proofs.Lists.{next}
-use Rattle.text.proofs.Laws.{count-last}
 use Rattle.text.proofs.Alls.{all-append}
 use Rattle.text.proofs.Ended.{notLF, Plain}
 use Rattle.text.proofs.Changes.{rowOf, row-from}
@@ -23,6 +20,7 @@ use Rattle.edit.proofs.Blocks.{padsOf-length, pieces-length}
 use Rattle.edit.proofs.Sizes.{growth}
 use Rattle.blocks.specs.Blocks.{putAt}
 use Rattle.text.proofs.Turns.{newRow, Turned, below-turned, count-turned, from-turned}
+use Rattle.blocks.proofs.Starts.{scan-row, start-turned}
 
 abbrev pub inserted : List ℕ → ℕ → ℕ → List ℕ → List ℕ → Edited ℕ
 inserted t r c x ns = blockInserted isLF isSpace spaces t (at r c) x ns
@@ -48,21 +46,15 @@ unfolding all
 plain-spaces zero = tt
 plain-spaces (suc n) = plain-spaces n
 
-pub row-there : (t : List ℕ) (r k n : ℕ) → k < n → n ≤ rowCount isLF t - r → r + k ≤ lastRow isLF t
-row-there t r k n h l = omega (arith, count-last isLF t)
-
--- where a chunk goes in
-module _ (t : List ℕ) (p : Position) (f : Place) (e : f ≡ place isLF t p) where
-  pub col-within : f .pos .col .0 ≤ p .col .0
-  unfolding clamp
-  col-within = rw e (omega arith)
-
-  pub put-found : p .row .0 ≤ lastRow isLF t → record { at = f .at; pad = p .col .0 - f .pos .col .0 } ≡ putAt t p
-  unfolding clamp
-  put-found h =
-      let m : min (p .row .0) (lastRow isLF t) ≡ p .row .0 = omega arith in
-      let n : p .col .0 - min (p .col .0) (rowLen isLF t (p .row .0)) ≡ p .col .0 - rowLen isLF t (p .row .0) = omega arith in
-      rw (e, m, n)
+-- where a chunk goes in; n and m are what the code makes of the row
+pub put-found : (t : List ℕ) (s c r n m : ℕ) → r ≤ lastRow isLF t → s ≡ rowStart isLF t r → n ≡ rowLen isLF (take (length t - s) (drop s t)) 0 → m ≡ min c n
+    → record { at = charAt (s + m); pad = c - m; end = charAt (s + n) } ≡ putAt t (at r c)
+put-found t s c r n m h e f g =
+    let l : n ≡ rowLen isLF t r = scan-row t s n f r e in
+    let x : s + m ≡ offset isLF t (at r c) = rw (offset-row isLF t r c h) (omega (arith, e, g, l)) in
+    let y : c - m ≡ c - rowLen isLF t r = omega arith in
+    let z : s + n ≡ rowStart isLF t r + rowLen isLF t r = omega arith in
+    rw (x, y, z)
 
 -- ---- a chunk put in, and the rest
 
@@ -95,6 +87,11 @@ module _ (t : List ℕ) (r c n : ℕ) (ns x : List ℕ) (h : r ≤ lastRow isLF 
 
   pub put-count : rowCount isLF u ≡ rowCount isLF t
   put-count = count-turned t r m m g h (omega arith) (omega arith) plain u turned
+
+  pub put-start : r < lastRow isLF t → rowStart isLF u (suc r) ≡ rowStart isLF t r + rowLen isLF t r + (padAt t r c + length (take n x)) + 1
+  put-start l =
+      start-turned t r m m g l (omega arith) (omega arith) plain u turned
+      ∙ omega (arith, length-append (replicate (padAt t r c) 32) (take n x), length-replicate {A = ℕ} (padAt t r c) 32)
 
 -- ---- sizes
 

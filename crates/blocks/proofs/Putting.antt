@@ -7,7 +7,7 @@ use native.Mathlib.Omega.{arith}
 use lib.ListN.{length, take, drop, getD, set, replicate, length-append, length-take, length-drop, length-replicate, length-set, drop-of-length-le, take-append-drop}
 use lib.Seq.{drop-drop, length-take-le}
 use Rattle.promise.proofs.Lists.{next}
-use Rattle.text.specs.Rows.{lines, at, rowCount, lastRow, offset, spliced}
+use Rattle.text.specs.Rows.{lines, at, rowCount, lastRow, rowLen, rowStart, offset, spliced}
 use Rattle.text.specs.Text.{isLF, renewed}
 use Rattle.text.proofs.Laws.{unlines-lines, count-last}
 use Rattle.text.proofs.Alls.{all-take, all-drop}
@@ -21,9 +21,10 @@ use Rattle.edit.specs.Refusals.{sum}
 use Rattle.edit.proofs.Sizes.{blockInserted-length}
 use Rattle.blocks.specs.declared.Put.{Put}
 use Rattle.blocks.specs.Blocks.{putAt, Left, left, leftBy}
-use Rattle.blocks.proofs.Puts.{inserted, pads-length, padAt, put-text, put-pads, put-count}
+use Rattle.blocks.proofs.Starts.{Begins, begins-first, end-within}
+use Rattle.blocks.proofs.Puts.{inserted, pads-length, padAt, put-text, put-pads, put-count, put-start}
 
-pub record Putting (b₀ : List ℕ) (used r c : ℕ) (x ns q₀ b q : List ℕ) (long from k : ℕ) : Type 0 where
+pub record Putting (b₀ : List ℕ) (used r c : ℕ) (x ns q₀ b q : List ℕ) (long start from k : ℕ) : Type 0 where
   pub within : k ≤ length ns
   pub grown : used ≤ long
   pub fits : long ≤ length b
@@ -32,14 +33,16 @@ pub record Putting (b₀ : List ℕ) (used r c : ℕ) (x ns q₀ b q : List ℕ)
   pub left : from + sum (drop k ns) ≤ length x
   pub kept : b ≡ renewed b₀ used (take long b)
   pub rows : rowCount isLF (take long b) ≡ rowCount isLF (take used b₀)
+  pub begins : Begins (take long b) r (length ns) k start
   pub text : inserted (take long b) (r + k) c (drop from x) (drop k ns) .text ≡ inserted (take used b₀) r c x ns .text
   pub pads : q ≡ take k (inserted (take used b₀) r c x ns .inverse .second) ++ drop k q₀
   pub rest : drop k (inserted (take used b₀) r c x ns .inverse .second) ≡ inserted (take long b) (r + k) c (drop from x) (drop k ns) .inverse .second
 
 -- ---- at the start
 
-pub putting-none : (b₀ : List ℕ) (used r c : ℕ) (x ns q₀ : List ℕ) → used ≤ length b₀ → sum ns ≤ length x → Putting b₀ used r c x ns q₀ b₀ q₀ used 0 0
-putting-none b₀ used r c x ns q₀ h s = record {
+pub putting-none : (b₀ : List ℕ) (used r c : ℕ) (x ns q₀ : List ℕ) (start : ℕ) → used ≤ length b₀ → sum ns ≤ length x → start ≡ rowStart isLF (take (used - 0) b₀) r
+    → Putting b₀ used r c x ns q₀ b₀ q₀ used start 0 0
+putting-none b₀ used r c x ns q₀ start h s e = record {
   within = omega arith;
   grown = omega arith;
   fits = h;
@@ -48,6 +51,7 @@ putting-none b₀ used r c x ns q₀ h s = record {
   left = omega arith;
   kept = renewed-same b₀ used h;
   rows = refl;
+  begins = begins-first (take used b₀) r (length ns) start (rw sub-zero at e);
   text = rw add-zero;
   pads = refl;
   rest = rw add-zero;
@@ -55,7 +59,7 @@ putting-none b₀ used r c x ns q₀ h s = record {
 
 -- ---- a turn
 
-module _ (b₀ : List ℕ) (used r c : ℕ) (x ns q₀ b q : List ℕ) (long from k : ℕ) (s : Putting b₀ used r c x ns q₀ b q long from k) (h : k < length ns) where
+module _ (b₀ : List ℕ) (used r c : ℕ) (x ns q₀ b q : List ℕ) (long start from k : ℕ) (s : Putting b₀ used r c x ns q₀ b q long start from k) (h : k < length ns) where
   abbrev u : List ℕ
   u = take long b
 
@@ -106,10 +110,17 @@ module _ (b₀ : List ℕ) (used r c : ℕ) (x ns q₀ b q : List ℕ) (long fro
     turn-room =
         omega (arith, v-length, ap length text-next, blockInserted-length v (at (r + (k + 1)) c) (drop (from + n) x) (drop (k + 1) ns) (omega (arith, left-next, length-drop (from + n) x)))
 
-    -- b₁ is the buffer after the splice, and q₁ the pads after the store
-    pub putting-more : (b₁ q₁ : List ℕ) → b₁ ≡ renewed b long v → q₁ ≡ set q k pad → long + (pad + n) ≤ length b → length ns ≤ length q₀
-        → Putting b₀ used r c x ns q₀ b₁ q₁ (long + (pad + n)) (from + n) (k + 1)
-    putting-more b₁ q₁ eb eq room more =
+    begins-more : (start₁ : ℕ) → start₁ ≡ rowStart isLF u (r + k) + rowLen isLF u (r + k) + pad + n + 1 → (k + 1 < length ns → r + k < lastRow isLF u)
+        → Begins v r (length ns) (k + 1) start₁
+    begins-more start₁ es below m =
+        let e : r + (k + 1) ≡ suc (r + k) = omega arith in
+        rw e (omega (arith, es, chunk-length, put-start u (r + k) c n (drop (k + 1) ns) (drop from x) l (all-take notLF n (drop from x) (all-drop notLF from x p)) v refl (below m)))
+
+    -- b₁ is the buffer after the splice, q₁ the pads after the store, and start₁ is behind the row as it then is
+    pub putting-more : (b₁ q₁ : List ℕ) (start₁ : ℕ) → start₁ ≡ rowStart isLF u (r + k) + rowLen isLF u (r + k) + pad + n + 1 → (k + 1 < length ns → r + k < lastRow isLF u)
+        → b₁ ≡ renewed b long v → q₁ ≡ set q k pad → long + (pad + n) ≤ length b → length ns ≤ length q₀
+        → Putting b₀ used r c x ns q₀ b₁ q₁ (long + (pad + n)) start₁ (from + n) (k + 1)
+    putting-more b₁ q₁ start₁ es below eb eq room more =
         let W : List ℕ = inserted (take used b₀) r c x ns .inverse .second in
         let lu : length u ≡ long = length-take-le long b (s .fits) in
         let lv : length v ≡ long + (pad + n) = v-length in
@@ -128,6 +139,7 @@ module _ (b₀ : List ℕ) (used r c : ℕ) (x ns q₀ b q : List ℕ) (long fro
           left = omega (arith, left-next);
           kept = rw front whole;
           rows = rw front (put-count u (r + k) c n (drop (k + 1) ns) (drop from x) l (all-take notLF n (drop from x) (all-drop notLF from x p)) v refl) ∙ s .rows;
+          begins = rw front (begins-more start₁ es below);
           text = rw front text-next;
           pads = eq ∙ stored-more W q₀ q (pad ∷ []) (inserted v (r + (k + 1)) c (drop (from + n) x) (drop (k + 1) ns) .inverse .second) k (s .pads) d (omega arith) kw;
           rest = rw front (stored-rest W q₀ q (pad ∷ []) (inserted v (r + (k + 1)) c (drop (from + n) x) (drop (k + 1) ns) .inverse .second) k (s .pads) d (omega arith) kw);
@@ -135,9 +147,9 @@ module _ (b₀ : List ℕ) (used r c : ℕ) (x ns q₀ b q : List ℕ) (long fro
 
 -- ---- the same, in the code's words: the present text is lent as a part of the buffer, and the chunk as a part of the payload
 
-module _ {b₀ : List ℕ} {used r c : ℕ} {x ns q₀ b q : List ℕ} {long from k : ℕ} (s : Putting b₀ used r c x ns q₀ b q long from k) (h : k < length ns) (there : length ns ≤ rowCount isLF (take used b₀) - r) where
-  pub end-within : from + getD ns k 0 ≤ length x
-  end-within = chunk-within b₀ used r c x ns q₀ b q long from k s h
+module _ {b₀ : List ℕ} {used r c : ℕ} {x ns q₀ b q : List ℕ} {long start from k : ℕ} (s : Putting b₀ used r c x ns q₀ b q long start from k) (h : k < length ns) (there : length ns ≤ rowCount isLF (take used b₀) - r) where
+  pub chunk-end : from + getD ns k 0 ≤ length x
+  chunk-end = chunk-within b₀ used r c x ns q₀ b q long start from k s h
 
   abbrev now : List ℕ
   now = take (long - 0) b
@@ -146,8 +158,8 @@ module _ {b₀ : List ℕ} {used r c : ℕ} {x ns q₀ b q : List ℕ} {long fro
   row-now = omega (arith, count-last isLF (take long b), s .rows)
 
   module _ (p : Plain x) (limit : length (inserted (take used b₀) r c x ns .text) ≤ 16_384) where
-    pub splice-asked : (length now ≤ 16_384) × (r + k ≤ lastRow isLF now)
-    splice-asked = rw sub-zero (omega (arith, length-take long b, turn-room b₀ used r c x ns q₀ b q long from k s h row-now p), row-now)
+    pub splice-asked : (length now ≤ 16_384) × (r + k ≤ lastRow isLF now) × (start ≡ rowStart isLF now (r + k))
+    splice-asked = rw sub-zero (omega (arith, length-take long b, turn-room b₀ used r c x ns q₀ b q long start from k s h row-now p), row-now, s .begins h)
 
     module _ (room : length (inserted (take used b₀) r c x ns .text) ≤ length b₀) (put : Put) (e : put ≡ putAt now (at (r + k) c)) where
       put-here : put ≡ putAt (take long b) (at (r + k) c)
@@ -157,20 +169,25 @@ module _ {b₀ : List ℕ} {used r c : ℕ} {x ns q₀ b q : List ℕ} {long fro
       chunk-here = let z : from + getD ns k 0 - from ≡ getD ns k 0 = omega arith in rw z
 
       pub next-room : long + (put .pad + getD ns k 0) ≤ length b
-      next-room = rw put-here (omega (arith, turn-room b₀ used r c x ns q₀ b q long from k s h row-now p, s .size))
+      next-room = rw put-here (omega (arith, turn-room b₀ used r c x ns q₀ b q long start from k s h row-now p, s .size))
 
       pub next-limit : long + (put .pad + getD ns k 0) ≤ 16_384
-      next-limit = rw put-here (omega (arith, turn-room b₀ used r c x ns q₀ b q long from k s h row-now p))
+      next-limit = rw put-here (omega (arith, turn-room b₀ used r c x ns q₀ b q long start from k s h row-now p))
+
+      pub start-limit : put .end .0 + (put .pad + getD ns k 0) ≤ 16_384
+      start-limit = omega (arith, next-limit, end-within (take long b) r k _ (ap (λ (z : Put). z .end .0) put-here), length-take long b)
 
       pub open-asked : (put .at .0 ≤ long) × (long + (put .pad + length (take (from + getD ns k 0 - from) (drop from x))) ≤ length b)
       open-asked =
           let o : put .at .0 ≤ long = rw put-here (omega (arith, offset-le isLF (take long b) (at (r + k) c), length-take long b)) in
-          (o, rw chunk-here (omega (arith, next-room, chunk-length b₀ used r c x ns q₀ b q long from k s h)))
+          (o, rw chunk-here (omega (arith, next-room, chunk-length b₀ used r c x ns q₀ b q long start from k s h)))
 
       pub putting-next : (b₁ : List ℕ) → b₁ ≡ gapOpened b long (put .at .0) (replicate (put .pad) 32 ++ take (from + getD ns k 0 - from) (drop from x)) → length ns ≤ length q₀
-          → Putting b₀ used r c x ns q₀ b₁ (set q k (put .pad)) (long + (put .pad + getD ns k 0)) (from + getD ns k 0) (k + 1)
+          → Putting b₀ used r c x ns q₀ b₁ (set q k (put .pad)) (long + (put .pad + getD ns k 0)) (put .end .0 + put .pad + getD ns k 0 + 1) (from + getD ns k 0) (k + 1)
       putting-next b₁ eb more =
-          rw put-here (putting-more b₀ used r c x ns q₀ b q long from k s h row-now p b₁ (set q k (padAt (take long b) (r + k) c)) (rw (put-here, chunk-here) at eb) refl (rw put-here at next-room) more)
+          let u = take long b in
+          rw put-here
+          (putting-more b₀ used r c x ns q₀ b q long start from k s h row-now p b₁ (set q k (padAt u (r + k) c)) (rowStart isLF u (r + k) + rowLen isLF u (r + k) + padAt u (r + k) c + getD ns k 0 + 1) refl (λ m. omega (arith, count-last isLF u, s .rows)) (rw (put-here, chunk-here) at eb) refl (rw put-here at next-room) more)
 
 -- ---- at the end
 
@@ -182,9 +199,9 @@ none-padded : (t : List ℕ) (r c : ℕ) (x : List ℕ) → inserted t r c x [] 
 unfolding blockInserted pieces padsOf
 none-padded t r c x = refl
 
-pub putting-done : {b₀ : List ℕ} {used r c : ℕ} {x ns q₀ b q : List ℕ} {long from k : ℕ} → Putting b₀ used r c x ns q₀ b q long from k → length ns ≤ k
+pub putting-done : {b₀ : List ℕ} {used r c : ℕ} {x ns q₀ b q : List ℕ} {long start from k : ℕ} → Putting b₀ used r c x ns q₀ b q long start from k → length ns ≤ k
     → left b q ≡ leftBy (inserted (take used b₀) r c x ns) b₀ used q₀
-putting-done {b₀} {used} {r} {c} {x} {ns} {q₀} {b} {q} {long} {from} {k} s h =
+putting-done {b₀} {used} {r} {c} {x} {ns} {q₀} {b} {q} {long} {start} {from} {k} s h =
     let D = inserted (take used b₀) r c x ns in
     let z : drop k ns ≡ [] = drop-of-length-le ns h in
     let t : take long b ≡ D .text =

@@ -1,18 +1,22 @@
 -- What the parts of a block insert find and leave.
 use mathlib.Core.List.{List}
-use Prim.Native.Nat.{ℕ, _-_}
+use Prim.Native.Nat.{ℕ, _+_, _-_}
 use lib.ListN.{take}
 use Rattle.promise.specs.Slices.{over}
 use Rattle.text.specs.declared.Position.{Position}
-use Rattle.text.specs.Rows.{charAt, rowLen, offset}
+use Rattle.text.specs.Rows.{charAt, rowLen, rowStart, offset}
 use Rattle.text.specs.Text.{isLF, renewed}
 use Rattle.edit.specs.Edits.{Edited, blockInserted}
 use Rattle.edit.specs.Refusals.{isSpace, spaces}
 use Rattle.blocks.specs.declared.Put.{Put}
 
--- put_splice: where a chunk goes into a row of the text, and how many spaces come before it
+-- put_splice: where a chunk goes into a row of the text, how many spaces come before it, and where the row ends
 abbrev pub putAt : List ℕ → Position → Put
-putAt t p = record { at = charAt (offset isLF t p); pad = p .col .0 - rowLen isLF t (p .row .0) }
+putAt t p = record {
+  at = charAt (offset isLF t p);
+  pad = p .col .0 - rowLen isLF t (p .row .0);
+  end = charAt (rowStart isLF t (p .row .0) + rowLen isLF t (p .row .0));
+}
 
 -- put_rows: the two slices that it writes
 pub record Left : Type 0 where

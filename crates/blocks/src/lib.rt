@@ -15,17 +15,18 @@ ghost use mathlib.Core.List.{List};
 ghost use Prim.Native.Nat.{ℕ, _+_, _-_, _≤_, min};
 ghost use lib.Dec.{T};
 ghost use lib.ListN.{length, take};
-ghost use Rattle.text.specs.Rows.{rowCount, lastRow};
+ghost use Rattle.text.specs.Rows.{rowCount, lastRow, rowStart};
 ghost use Rattle.text.specs.Text.{isLF, textLimit, all};
 ghost use Rattle.edit.specs.Edits.{blockInserted};
 ghost use Rattle.edit.specs.Refusals.{isSpace, spaces, sum};
 ghost use Rattle.edit.specs.Call.{paperAnswer, outcome, lent, roomOf, finished};
 ghost use Rattle.blocks.specs.Blocks.{putAt, left, putFrom, leftBy};
 
-// Where a chunk goes into a row, and how many spaces come before it.
+// Where a chunk goes into a row, how many spaces come before it, and where the row ends.
 struct Put {
     at: CharOffset,
     pad: u32,
+    end: CharOffset,
 }
 
 // How many rows the text has from this one on, at most so many.
@@ -41,15 +42,20 @@ pub fn rows_from(text: &[u32], row: Row, most: usize) -> usize
     if below < most { below } else { most }
 }
 
-fn put_splice(text: &[u32], pos: Position) -> Put
-    requires { ⌜ (length (now text) ≤ textLimit) × (pos .row .0 ≤ lastRow isLF (now text)) ⌝ }
+// The row of `pos` begins at `begin`.
+fn put_splice(text: &[u32], begin: CharOffset, pos: Position) -> Put
+    requires { ⌜ (length (now text) ≤ textLimit) × (pos .row .0 ≤ lastRow isLF (now text)) × (begin .0 ≡ rowStart isLF (now text) (pos .row .0)) ⌝ }
     ensures { λ r. ⌜ r ≡ putAt (now (text .entry)) pos ⌝ }
 {
-    let found = text::locate(text, pos);
-    let at = found.at;
+    let start = begin.0;
+    let used = text.len();
+    let len = text::line_char_count(&text[start..used], Row(0));
+    let col = pos.col;
+    let within = col.min(len);
     Put {
-        at,
-        pad: pos.col.0 - found.pos.col.0,
+        at: CharOffset(start + within.0 as usize),
+        pad: col.0 - within.0,
+        end: CharOffset(start + len.0 as usize),
     }
 }
 
@@ -61,16 +67,18 @@ fn put_size(text: &[u32], at: Position, lens: &[u32]) -> usize
     let row = at.row.0;
     let col = at.col;
     let mut size = text.len();
+    let mut start = text::line_to_char(text, at.row).0;
     let mut k = 0;
     while k < lens.len() {
         let pos = Position {
             row: Row(row + k as u32),
             col,
         };
-        let put = put_splice(text, pos);
+        let put = put_splice(text, CharOffset(start), pos);
         let pad = put.pad as usize;
         let len = lens[k] as usize;
         size += pad + len;
+        start = put.end.0 + 1;
         k += 1;
     }
     size
@@ -91,6 +99,7 @@ fn put_rows(
     let row = at.row.0;
     let col = at.col;
     let mut long = used;
+    let mut start = text::line_to_char(&text[0..used], at.row).0;
     let mut from = 0;
     let mut k = 0;
     while k < lens.len() {
@@ -98,13 +107,14 @@ fn put_rows(
             row: Row(row + k as u32),
             col,
         };
-        let put = put_splice(&text[0..long], pos);
+        let put = put_splice(&text[0..long], CharOffset(start), pos);
         let pad = put.pad as usize;
         let len = lens[k] as usize;
         let end = from + len;
         splice::open_padded(text, long, put.at, pad, &payload[from..end]);
         pads[k] = put.pad;
         long += pad + len;
+        start = put.end.0 + pad + len + 1;
         from = end;
         k += 1;
     }

@@ -9,10 +9,8 @@ use lib.ListN.{length, take, drop, getD, length-append, length-take, length-drop
 use lib.Seq.{paste, slice, take-all, take-append-le, drop-drop, drop-append-le, drop-append-add, getD-drop, length-take-le}
 use Rattle.promise.proofs.Lists.{next, drop-take}
 use Rattle.text.specs.declared.Position.{Position}
-use Rattle.text.specs.declared.Span.{Span}
-use Rattle.text.specs.Rows.{Line, line, lines, unlines, at, rowCount, lastRow, rowLen, rowStart, span, offset, spliced, charAt}
-use Rattle.text.specs.Text.{isLF, all}
-use Rattle.text.proofs.Ended.{Plain}
+use Rattle.text.specs.Rows.{Line, line, lines, unlines, at, rowCount, lastRow, rowLen, rowStart, offset, spliced, charAt}
+use Rattle.text.specs.Text.{isLF}
 use Rattle.text.proofs.Spots.{offset-le, offset-row}
 use Rattle.text.proofs.Changes.{rowOf, row-from, text-around}
 use Rattle.text.proofs.Turns.{newRow, Turned, below-turned, count-turned, from-turned}
@@ -21,7 +19,7 @@ use Rattle.edit.specs.Edits.{Edited, cutAll, chunksOf, chunksDeleted}
 use Rattle.edit.specs.Refusals.{isSpace, spaces}
 use Rattle.edit.proofs.Blocks.{chunksOf-length, chunks-le}
 use Rattle.edit.proofs.Sizes.{loss, chunksDeleted-length}
-use Rattle.blocks.proofs.Puts.{row-there}
+use Rattle.blocks.proofs.Starts.{plain-none, scan-row, start-turned, row-there, Begins, begins-first, begins-next, end-within}
 use Rattle.chunks.specs.declared.Cut.{Cut}
 use Rattle.chunks.specs.Chunks.{cutAt, sizesOf}
 
@@ -64,32 +62,24 @@ left-end c d L = let e : c - min d c ≡ c - d = omega arith in rw e
 right-end : (c w L b g : ℕ) → b ≡ min c L → g ≡ min w (L - b) → b + g ≡ min (c + w) L
 right-end c w L b g eb eg = omega arith
 
-plain-none : Plain []
-unfolding all
-plain-none = tt
-
--- where the cut is
-module _ (t : List ℕ) (p : Position) (w d : ℕ) (f : Span) (e : f ≡ span isLF t (p .row .0)) (h : p .row .0 ≤ lastRow isLF t) where
-  row-found : (f .start .0 ≡ rowStart isLF t (p .row .0)) × (f .end .0 ≡ rowStart isLF t (p .row .0) + rowLen isLF t (p .row .0))
-  unfolding span
-  row-found = let m : min (p .row .0) (lastRow isLF t) ≡ p .row .0 = omega arith in rw (e, m) (refl, refl)
-
-  len-found : f .end .0 - f .start .0 ≡ rowLen isLF t (p .row .0)
-  len-found = let s = row-found in omega arith
+-- where the cut is, in the row that starts at s and is n long
+module _ (t : List ℕ) (p : Position) (w d s n : ℕ) (h : p .row .0 ≤ lastRow isLF t) (e : s ≡ rowStart isLF t (p .row .0)) (f : n ≡ rowLen isLF (take (length t - s) (drop s t)) 0) where
+  len-found : n ≡ rowLen isLF t (p .row .0)
+  len-found = scan-row t s n f (p .row .0) e
 
   -- m, a, b and g are what the code makes of the row's length
-  pub cut-found : (m a b g : ℕ) → m ≡ min d (p .col .0) → a ≡ min (p .col .0 - m) (f .end .0 - f .start .0) → b ≡ min (p .col .0) (f .end .0 - f .start .0)
-      → g ≡ min w (f .end .0 - f .start .0 - b) → record { from = charAt (f .start .0 + a); chunk = charAt (f .start .0 + b); to = charAt (f .start .0 + b + g) } ≡ cutAt t p w d
+  pub cut-found : (m a b g : ℕ) → m ≡ min d (p .col .0) → a ≡ min (p .col .0 - m) n → b ≡ min (p .col .0) n → g ≡ min w (n - b)
+      → record { from = charAt (s + a); chunk = charAt (s + b); to = charAt (s + b + g); end = charAt (s + n) } ≡ cutAt t p w d
   cut-found m a b g em ea eb eg =
       let r : ℕ = p .row .0 in
       let c : ℕ = p .col .0 in
       let L : ℕ = rowLen isLF t r in
-      let s : f .start .0 ≡ rowStart isLF t r = row-found .0 in
-      let x : f .start .0 + a ≡ offset isLF t (at r (c - d)) = ap₂ {C = ℕ} _+_ s (ea ∙ rw (em, len-found) (left-end c d L)) ∙ sym (offset-row isLF t r (c - d) h) in
-      let y : f .start .0 + b ≡ offset isLF t p = ap₂ {C = ℕ} _+_ s (eb ∙ rw len-found) ∙ sym (offset-row isLF t r c h) in
+      let x : s + a ≡ offset isLF t (at r (c - d)) = ap₂ {C = ℕ} _+_ e (ea ∙ rw (em, len-found) (left-end c d L)) ∙ sym (offset-row isLF t r (c - d) h) in
+      let y : s + b ≡ offset isLF t p = ap₂ {C = ℕ} _+_ e (eb ∙ rw len-found) ∙ sym (offset-row isLF t r c h) in
       let k : b + g ≡ min (c + w) L = right-end c w L b g (rw len-found at eb) (rw len-found at eg) in
-      let z : f .start .0 + b + g ≡ offset isLF t (at r (c + w)) = add-assoc (f .start .0) b g ∙ ap₂ {C = ℕ} _+_ s k ∙ sym (offset-row isLF t r (c + w) h) in
-      rw (z, x, y)
+      let z : s + b + g ≡ offset isLF t (at r (c + w)) = add-assoc s b g ∙ ap₂ {C = ℕ} _+_ e k ∙ sym (offset-row isLF t r (c + w) h) in
+      let v : s + n ≡ rowStart isLF t r + L = ap₂ {C = ℕ} _+_ e len-found in
+      rw (z, x, y, v)
 
 -- a chunk copied out, and the cut taken out
 pub row-cut : (b t out o : List ℕ) (used from chunk to filled : ℕ) → to ≤ used → used ≤ length b
@@ -151,6 +141,10 @@ module _ (t : List ℕ) (r c w : ℕ) (ws ds : List ℕ) (h : r ≤ lastRow isLF
 
     pub cut-count : rowCount isLF u ≡ rowCount isLF t
     cut-count = count-turned t r a e [] h (omega arith) (omega arith) plain-none u turned
+
+    pub cut-start : r < lastRow isLF t → rowStart isLF u (suc r) ≡ rowStart isLF t r + rowLen isLF t r - (offset isLF t (at r (c + w)) - offset isLF t (at r (c - d))) + 1
+    cut-start l =
+        start-turned t r a e [] l (omega arith) (omega arith) plain-none u turned ∙ omega (arith, offset-row isLF t r (c - d) h, offset-row isLF t r (c + w) h)
 
 -- ---- sizes
 
@@ -215,15 +209,16 @@ module _ (t : List ℕ) (r c k : ℕ) (ws ds : List ℕ) (h : k < length ws) (l 
 
 -- ---- the loop that finds the sizes
 
-pub record Sizing (t : List ℕ) (r c : ℕ) (ws ds : List ℕ) (gone payload k : ℕ) : Type 0 where
+pub record Sizing (t : List ℕ) (r c : ℕ) (ws ds : List ℕ) (gone payload start k : ℕ) : Type 0 where
   pub within : k ≤ length ws
+  pub begins : Begins t r (length ws) k start
   pub less : gone + loss c (drop k ws) (drop k ds) (drop (r + k) (lines isLF t)) ≡ loss c ws ds (drop r (lines isLF t))
   pub more : payload + taken c (drop k ws) (drop (r + k) (lines isLF t)) ≡ taken c ws (drop r (lines isLF t))
 
-pub sizing-none : (t : List ℕ) (r c : ℕ) (ws ds : List ℕ) → Sizing t r c ws ds 0 0 0
-sizing-none t r c ws ds = record { within = omega arith; less = rw (add-zero, zero-add); more = rw (add-zero, zero-add) }
+pub sizing-none : (t : List ℕ) (r c : ℕ) (ws ds : List ℕ) (start : ℕ) → start ≡ rowStart isLF t r → Sizing t r c ws ds 0 0 start 0
+sizing-none t r c ws ds start e = record { within = omega arith; begins = begins-first t r (length ws) start e; less = rw (add-zero, zero-add); more = rw (add-zero, zero-add) }
 
-module _ {t : List ℕ} {r c : ℕ} {ws ds : List ℕ} {gone payload k : ℕ} (s : Sizing t r c ws ds gone payload k) (h : k < length ws) (there : length ws ≤ rowCount isLF t - r)
+module _ {t : List ℕ} {r c : ℕ} {ws ds : List ℕ} {gone payload start k : ℕ} (s : Sizing t r c ws ds gone payload start k) (h : k < length ws) (there : length ws ≤ rowCount isLF t - r)
     (d : ℕ) (ed : d ≡ getD ds k 0) (cut : Cut) (e : cut ≡ cutAt t (at (r + k) c) (getD ws k 0) d) where
   row-now : r + k ≤ lastRow isLF t
   row-now = row-there t r k (length ws) h there
@@ -245,10 +240,13 @@ module _ {t : List ℕ} {r c : ℕ} {ws ds : List ℕ} {gone payload k : ℕ} (s
       let g : cut .to .0 - cut .chunk .0 ≡ length (take (getD ws k 0) (drop c (rowOf t (r + k) .body))) = rw cut-here (chunk-length t (r + k) c (getD ws k 0) row-now) in
       rw g (add-assoc payload _ _ ∙ ap (_+_ payload) (sym (taken-next t r c k ws ds h row-now)) ∙ s .more)
 
-  pub sizing-next : Sizing t r c ws ds (gone + (cut .to .0 - cut .from .0)) (payload + (cut .to .0 - cut .chunk .0)) (k + 1)
-  sizing-next = record { within = omega arith; less = sizing-less; more = sizing-more }
+  pub end-found : cut .end .0 ≤ length t
+  end-found = end-within t r k (cut .end .0) (ap (λ (z : Cut). z .end .0) cut-here)
 
-module _ {t : List ℕ} {r c : ℕ} {ws ds : List ℕ} {gone payload k : ℕ} (s : Sizing t r c ws ds gone payload k) where
+  pub sizing-next : Sizing t r c ws ds (gone + (cut .to .0 - cut .from .0)) (payload + (cut .to .0 - cut .chunk .0)) (cut .end .0 + 1) (k + 1)
+  sizing-next = record { within = omega arith; begins = begins-next t r k (cut .end .0) (ap (λ (z : Cut). z .end .0) cut-here) (length ws) there; less = sizing-less; more = sizing-more }
+
+module _ {t : List ℕ} {r c : ℕ} {ws ds : List ℕ} {gone payload start k : ℕ} (s : Sizing t r c ws ds gone payload start k) where
   pub sizing-bounds : (gone ≤ length t) × (payload ≤ length t)
   sizing-bounds =
       (omega (arith, s .less, chunksDeleted-length t (at r c) ws ds), omega (arith, s .more, chunks-le t c r ws))

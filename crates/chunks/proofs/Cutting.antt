@@ -8,20 +8,22 @@ use lib.ListN.{length, take, drop, getD, set, length-append, length-take, length
 use lib.Seq.{paste, slice, sets, sets-eq, length-sets, take-length, take-take, drop-drop, length-take-le}
 use Rattle.promise.proofs.Lists.{next, drop-take}
 use Rattle.promise.specs.Slices.{over}
-use Rattle.text.specs.Rows.{lines, at, rowCount, lastRow, offset, spliced}
+use Rattle.text.specs.Rows.{lines, at, rowCount, lastRow, rowLen, rowStart, offset, spliced}
 use Rattle.text.specs.Text.{isLF, renewed}
 use Rattle.text.proofs.Laws.{unlines-lines, count-last}
 use Rattle.text.proofs.Changes.{rowOf}
+use Rattle.text.proofs.Spots.{row-within}
 use Rattle.text.proofs.Renewed.{renewed-same, renewed-text, renewed-length, renewed-twice}
 use Rattle.utf8.proofs.Stores.{stored-more, stored-rest, stored-end}
 use Rattle.splice.specs.Splice.{Gap, gap, gapRemoved}
 use Rattle.edit.specs.Edits.{cutAll, chunksOf, chunksDeleted}
 use Rattle.edit.proofs.Blocks.{chunks-le}
+use Rattle.blocks.proofs.Starts.{Begins, begins-first}
 use Rattle.chunks.specs.declared.Cut.{Cut}
 use Rattle.chunks.specs.Chunks.{cutAt, left, leftBy}
-use Rattle.chunks.proofs.Cuts.{deleted, order, pad-next, chunk-here, chunk-length, cut-text, cut-payload, cut-first, cut-count, payload-length, first-length}
+use Rattle.chunks.proofs.Cuts.{deleted, order, pad-next, chunk-here, chunk-length, cut-text, cut-payload, cut-first, cut-count, cut-start, gone-row, payload-length, first-length}
 
-pub record Cutting (b₀ : List ℕ) (used r c : ℕ) (ws ds o₀ l₀ b o l : List ℕ) (long filled k : ℕ) : Type 0 where
+pub record Cutting (b₀ : List ℕ) (used r c : ℕ) (ws ds o₀ l₀ b o l : List ℕ) (long start filled k : ℕ) : Type 0 where
   pub within : k ≤ length ws
   pub begun : used ≤ length b₀
   pub shrunk : long ≤ used
@@ -30,6 +32,7 @@ pub record Cutting (b₀ : List ℕ) (used r c : ℕ) (ws ds o₀ l₀ b o l : L
   pub lensSize : length l ≡ length l₀
   pub kept : b ≡ renewed b₀ used (take long b)
   pub rows : rowCount isLF (take long b) ≡ rowCount isLF (take used b₀)
+  pub begins : Begins (take long b) r (length ws) k start
   pub text : deleted (take long b) (r + k) c (drop k ws) (drop k ds) .text ≡ deleted (take used b₀) r c ws ds .text
   pub upto : filled ≤ length (deleted (take used b₀) r c ws ds .inverse .payload)
   pub out : o ≡ take filled (deleted (take used b₀) r c ws ds .inverse .payload) ++ drop filled o₀
@@ -39,8 +42,9 @@ pub record Cutting (b₀ : List ℕ) (used r c : ℕ) (ws ds o₀ l₀ b o l : L
 
 -- ---- at the start
 
-pub cutting-none : (b₀ : List ℕ) (used r c : ℕ) (ws ds o₀ l₀ : List ℕ) → used ≤ length b₀ → Cutting b₀ used r c ws ds o₀ l₀ b₀ o₀ l₀ used 0 0
-cutting-none b₀ used r c ws ds o₀ l₀ h = record {
+pub cutting-none : (b₀ : List ℕ) (used r c : ℕ) (ws ds o₀ l₀ : List ℕ) (start : ℕ) → used ≤ length b₀ → start ≡ rowStart isLF (take (used - 0) b₀) r
+    → Cutting b₀ used r c ws ds o₀ l₀ b₀ o₀ l₀ used start 0 0
+cutting-none b₀ used r c ws ds o₀ l₀ start h e = record {
   within = omega arith;
   begun = h;
   shrunk = omega arith;
@@ -49,6 +53,7 @@ cutting-none b₀ used r c ws ds o₀ l₀ h = record {
   lensSize = refl;
   kept = renewed-same b₀ used h;
   rows = refl;
+  begins = begins-first (take used b₀) r (length ws) start (rw sub-zero at e);
   text = rw add-zero;
   upto = omega arith;
   out = refl;
@@ -67,7 +72,7 @@ paste-sets o x at h = sym (sets-eq x o at h ∙ rw take-length)
 part-front : (b : List ℕ) (long i j : ℕ) → j ≤ long → slice i j b ≡ take (j - i) (drop i (take long b))
 part-front b long i j h = rw (← take-take j long b h) (drop-take i j (take long b))
 
-module _ {b₀ : List ℕ} {used r c : ℕ} {ws ds o₀ l₀ b o l : List ℕ} {long filled k : ℕ} (s : Cutting b₀ used r c ws ds o₀ l₀ b o l long filled k) (h : k < length ws)
+module _ {b₀ : List ℕ} {used r c : ℕ} {ws ds o₀ l₀ b o l : List ℕ} {long start filled k : ℕ} (s : Cutting b₀ used r c ws ds o₀ l₀ b o l long start filled k) (h : k < length ws)
     (there : length ws ≤ rowCount isLF (take used b₀) - r) where
   abbrev u : List ℕ
   u = take long b
@@ -129,11 +134,17 @@ module _ {b₀ : List ℕ} {used r c : ℕ} {ws ds o₀ l₀ b o l : List ℕ} {
       let Q : List ℕ = deleted v (r + (k + 1)) c (drop (k + 1) ws) (drop (k + 1) ds) .inverse .payload in
       omega (arith, length-drop filled P, ap length rest-next, length-append x Q, s .upto)
 
-  -- b₁ and o₁ are left by the cut, and l₁ by the store
-  cutting-more : (b₁ o₁ l₁ : List ℕ) → b₁ ≡ gapRemoved b long i j → o₁ ≡ paste o filled (slice m j b) (j - m) → l₁ ≡ set l k (j - m)
+  begins-more : (start₁ : ℕ) → start₁ ≡ rowStart isLF u (r + k) + rowLen isLF u (r + k) - (j - i) + 1 → Begins v r (length ws) (k + 1) start₁
+  begins-more start₁ es n =
+      let g : r + k < lastRow isLF u = omega (arith, count-last isLF u, s .rows) in
+      let z : offset isLF u (at (r + k) (c - getD (drop k ds) 0 0)) ≡ i = rw (pad-next k ds) in
+      es ∙ rw on (sym (rw z at (cut-start u (r + k) c w (drop (k + 1) ws) (drop k ds) row-now v v-here g)))
+
+  -- b₁ and o₁ are left by the cut, l₁ by the store, and start₁ is behind the row as it then is
+  cutting-more : (b₁ o₁ l₁ : List ℕ) (start₁ : ℕ) → start₁ ≡ rowStart isLF u (r + k) + rowLen isLF u (r + k) - (j - i) + 1 → b₁ ≡ gapRemoved b long i j → o₁ ≡ paste o filled (slice m j b) (j - m) → l₁ ≡ set l k (j - m)
       → length (deleted (take used b₀) r c ws ds .inverse .payload) ≤ length o₀ → length ws ≤ length l₀
-      → Cutting b₀ used r c ws ds o₀ l₀ b₁ o₁ l₁ (long - (j - i)) (filled + (j - m)) (k + 1)
-  cutting-more b₁ o₁ l₁ eb eo el ro rl =
+      → Cutting b₀ used r c ws ds o₀ l₀ b₁ o₁ l₁ (long - (j - i)) start₁ (filled + (j - m)) (k + 1)
+  cutting-more b₁ o₁ l₁ start₁ es eb eo el ro rl =
       let P : List ℕ = deleted (take used b₀) r c ws ds .inverse .payload in
       let N : List ℕ = deleted (take used b₀) r c ws ds .inverse .first in
       let P₁ : List ℕ = deleted v (r + (k + 1)) c (drop (k + 1) ws) (drop (k + 1) ds) .inverse .payload in
@@ -159,6 +170,7 @@ module _ {b₀ : List ℕ} {used r c : ℕ} {ws ds o₀ l₀ b o l : List ℕ} {
         lensSize = ap length el ∙ length-set l k (j - m) ∙ s .lensSize;
         kept = rw front whole;
         rows = rw front (cut-count u (r + k) c w (drop (k + 1) ws) (drop k ds) row-now v v-here) ∙ s .rows;
+        begins = rw front (begins-more start₁ es);
         text = rw front text-next;
         upto = rw (← lm) x-room;
         out = rw (← lm) (st ∙ stored-more P o₀ o x P₁ filled (s .out) rest-next ko (s .upto));
@@ -169,12 +181,15 @@ module _ {b₀ : List ℕ} {used r c : ℕ} {ws ds o₀ l₀ b o l : List ℕ} {
 
   -- ---- the same, in the code's words: the present text is lent as a part of the buffer
 
-  pub splice-asked : used ≤ 16_384 → (length (take (long - 0) b) ≤ 16_384) × (r + k ≤ lastRow isLF (take (long - 0) b))
-  splice-asked n = rw sub-zero (omega (arith, u-length, s .shrunk), row-now)
+  pub splice-asked : used ≤ 16_384 → (length (take (long - 0) b) ≤ 16_384) × (r + k ≤ lastRow isLF (take (long - 0) b)) × (start ≡ rowStart isLF (take (long - 0) b) (r + k))
+  splice-asked n = rw sub-zero (omega (arith, u-length, s .shrunk), row-now, s .begins h)
 
   module _ (d : ℕ) (ed : d ≡ getD ds k 0) (cut : Cut) (e : cut ≡ cutAt (take (long - 0) b) (at (r + k) c) w d) where
     cut-here : cut ≡ cutAt u (at (r + k) c) w (getD ds k 0)
     cut-here = rw (sub-zero, ed) at e
+
+    pub end-asked : (cut .to .0 - cut .from .0 ≤ cut .end .0) × (cut .end .0 ≤ long)
+    end-asked = rw cut-here (omega (arith, gone-row u (r + k) c w (getD ds k 0) row-now), omega (arith, row-within isLF u (r + k), u-length))
 
     module _ (ro : length (deleted (take used b₀) r c ws ds .inverse .payload) ≤ length o₀) where
       pub row-asked : (cut .from .0 ≤ cut .chunk .0) × (cut .chunk .0 ≤ cut .to .0) × (cut .to .0 ≤ long) × (long ≤ length b) × (filled + (cut .to .0 - cut .chunk .0) ≤ length o)
@@ -188,10 +203,10 @@ module _ {b₀ : List ℕ} {used r c : ℕ} {ws ds o₀ l₀ b o l : List ℕ} {
 
       pub cutting-next : (b₁ o₁ : List ℕ) → gap b₁ o₁ ≡ gap (gapRemoved b long (cut .from .0) (cut .to .0)) (paste o filled (slice (cut .chunk .0) (cut .to .0) b) (cut .to .0 - cut .chunk .0))
           → length ws ≤ length l₀
-          → Cutting b₀ used r c ws ds o₀ l₀ b₁ o₁ (set l k (cut .to .0 - cut .chunk .0)) (long - (cut .to .0 - cut .from .0)) (filled + (cut .to .0 - cut .chunk .0)) (k + 1)
+          → Cutting b₀ used r c ws ds o₀ l₀ b₁ o₁ (set l k (cut .to .0 - cut .chunk .0)) (long - (cut .to .0 - cut .from .0)) (cut .end .0 - (cut .to .0 - cut .from .0) + 1) (filled + (cut .to .0 - cut .chunk .0)) (k + 1)
       cutting-next b₁ o₁ g rl =
           let q = rw cut-here at g in
-          rw cut-here (cutting-more b₁ o₁ (set l k (j - m)) (ap (λ (z : Gap). z .text) q) (ap (λ (z : Gap). z .cut) q) refl ro rl)
+          rw cut-here (cutting-more b₁ o₁ (set l k (j - m)) (rowStart isLF u (r + k) + rowLen isLF u (r + k) - (j - i) + 1) refl (ap (λ (z : Gap). z .text) q) (ap (λ (z : Gap). z .cut) q) refl ro rl)
 
 -- ---- at the end
 
@@ -203,9 +218,9 @@ none-recorded : (t : List ℕ) (r c : ℕ) (ds : List ℕ) → (deleted t r c []
 unfolding chunksDeleted chunksOf flatten
 none-recorded t r c ds = (refl, refl)
 
-pub cutting-done : {b₀ : List ℕ} {used r c : ℕ} {ws ds o₀ l₀ b o l : List ℕ} {long filled k : ℕ} → Cutting b₀ used r c ws ds o₀ l₀ b o l long filled k → length ws ≤ k
+pub cutting-done : {b₀ : List ℕ} {used r c : ℕ} {ws ds o₀ l₀ b o l : List ℕ} {long start filled k : ℕ} → Cutting b₀ used r c ws ds o₀ l₀ b o l long start filled k → length ws ≤ k
     → left b o l ≡ leftBy (deleted (take used b₀) r c ws ds) b₀ used o₀ l₀
-cutting-done {b₀} {used} {r} {c} {ws} {ds} {o₀} {l₀} {b} {o} {l} {long} {filled} {k} s h =
+cutting-done {b₀} {used} {r} {c} {ws} {ds} {o₀} {l₀} {b} {o} {l} {long} {start} {filled} {k} s h =
     let D = deleted (take used b₀) r c ws ds in
     let z : drop k ws ≡ [] = drop-of-length-le ws h in
     let n = none-recorded (take long b) (r + k) c (drop k ds) in

@@ -3,7 +3,7 @@ use mathlib.Core.List.{List}
 use Prim.Native.Nat.{ℕ, _+_, _-_}
 use lib.ListN.{length, take}
 use Rattle.text.specs.declared.Position.{Position}
-use Rattle.text.specs.Rows.{charAt, at, offset}
+use Rattle.text.specs.Rows.{charAt, at, rowLen, rowStart, offset}
 use Rattle.text.specs.Text.{isLF, renewed}
 use Rattle.promise.specs.Slices.{over}
 use Rattle.edit.specs.Edits.{Edited, chunksDeleted}
@@ -11,12 +11,13 @@ use Rattle.edit.specs.Refusals.{isSpace, spaces}
 use Rattle.chunks.specs.declared.Cut.{Cut}
 use Rattle.chunks.specs.declared.Sizes.{Sizes}
 
--- cut_splice: where the cut of a row begins, where its chunk begins, and where both end
+-- cut_splice: where the cut of a row begins, where its chunk begins, where both end, and where the row ends
 abbrev pub cutAt : List ℕ → Position → ℕ → ℕ → Cut
 cutAt t p w d = record {
   from = charAt (offset isLF t (at (p .row .0) (p .col .0 - d)));
   chunk = charAt (offset isLF t p);
   to = charAt (offset isLF t (at (p .row .0) (p .col .0 + w)));
+  end = charAt (rowStart isLF t (p .row .0) + rowLen isLF t (p .row .0));
 }
 
 -- cut_size: how long the text and the payload of its inverse are

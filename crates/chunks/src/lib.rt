@@ -17,7 +17,7 @@ ghost use mathlib.Core.List.{List};
 ghost use Prim.Native.Nat.{ℕ, _+_, _-_, _≤_, min};
 ghost use lib.ListN.{length, take, getD};
 ghost use lib.Seq.{paste, slice};
-ghost use Rattle.text.specs.Rows.{rowCount, lastRow};
+ghost use Rattle.text.specs.Rows.{rowCount, lastRow, rowStart};
 ghost use Rattle.text.specs.Text.{isLF, textLimit};
 ghost use Rattle.splice.specs.Splice.{gap, gapRemoved};
 ghost use Rattle.edit.specs.declared.MotionKind.the-variants.{Block};
@@ -26,11 +26,12 @@ ghost use Rattle.edit.specs.Refusals.{isSpace, spaces};
 ghost use Rattle.edit.specs.Call.{paperAnswer, outcome, lent, roomOf, finished};
 ghost use Rattle.chunks.specs.Chunks.{cutAt, sizesOf, left, cutFrom, leftBy};
 
-// Where a row's cut begins, where the chunk begins in it, behind the padding, and where both end.
+// Where a row's cut begins, where the chunk begins in it, behind the padding, where both end, and where the row ends.
 struct Cut {
     from: CharOffset,
     chunk: CharOffset,
     to: CharOffset,
+    end: CharOffset,
 }
 
 // How long the text will be, and how long all chunks are together.
@@ -49,13 +50,14 @@ fn pad_at(pads: &[u32], k: usize) -> u32
     0
 }
 
-fn cut_splice(text: &[u32], pos: Position, width: u32, pad: u32) -> Cut
-    requires { ⌜ (length (now text) ≤ textLimit) × (pos .row .0 ≤ lastRow isLF (now text)) ⌝ }
+// The row of `pos` begins at `begin`.
+fn cut_splice(text: &[u32], begin: CharOffset, pos: Position, width: u32, pad: u32) -> Cut
+    requires { ⌜ (length (now text) ≤ textLimit) × (pos .row .0 ≤ lastRow isLF (now text)) × (begin .0 ≡ rowStart isLF (now text) (pos .row .0)) ⌝ }
     ensures { λ r. ⌜ r ≡ cutAt (now (text .entry)) pos width pad ⌝ }
 {
-    let found = text::find_row(text, pos.row);
-    let start = found.start.0;
-    let len = Col((found.end.0 - start) as u32);
+    let start = begin.0;
+    let used = text.len();
+    let len = text::line_char_count(&text[start..used], Row(0));
     let col = pos.col;
     let left = Col(col.0 - Col(pad).min(col).0).min(len);
     let chunk = col.min(len);
@@ -64,6 +66,7 @@ fn cut_splice(text: &[u32], pos: Position, width: u32, pad: u32) -> Cut
         from: CharOffset(start + left.0 as usize),
         chunk: CharOffset(start + chunk.0 as usize),
         to: CharOffset(start + chunk.0 as usize + wide.0 as usize),
+        end: CharOffset(start + len.0 as usize),
     }
 }
 
@@ -75,15 +78,17 @@ fn cut_size(text: &[u32], at: Position, widths: &[u32], pads: &[u32]) -> Sizes
     let col = at.col;
     let mut gone = 0;
     let mut payload = 0;
+    let mut start = text::line_to_char(text, at.row).0;
     let mut k = 0;
     while k < widths.len() {
         let pos = Position {
             row: Row(row + k as u32),
             col,
         };
-        let cut = cut_splice(text, pos, widths[k], pad_at(pads, k));
+        let cut = cut_splice(text, CharOffset(start), pos, widths[k], pad_at(pads, k));
         gone += cut.to.0 - cut.from.0;
         payload += cut.to.0 - cut.chunk.0;
+        start = cut.end.0 + 1;
         k += 1;
     }
     Sizes {
@@ -119,6 +124,7 @@ fn cut_rows(
     let row = at.row.0;
     let col = at.col;
     let mut long = used;
+    let mut start = text::line_to_char(&text[0..used], at.row).0;
     let mut filled = 0;
     let mut k = 0;
     while k < widths.len() {
@@ -126,12 +132,15 @@ fn cut_rows(
             row: Row(row + k as u32),
             col,
         };
-        let cut = cut_splice(&text[0..long], pos, widths[k], pad_at(pads, k));
+        let pad = pad_at(pads, k);
+        let cut = cut_splice(&text[0..long], CharOffset(start), pos, widths[k], pad);
         cut_row(text, long, cut, out, filled);
         let len = cut.to.0 - cut.chunk.0;
+        let gone = cut.to.0 - cut.from.0;
         lens[k] = len as u32;
         filled += len;
-        long -= cut.to.0 - cut.from.0;
+        long -= gone;
+        start = cut.end.0 - gone + 1;
         k += 1;
     }
 }

@@ -1,7 +1,7 @@
-use Rattle.chunks.proofs.Cuts.{Sizing, sizing-none, sizing-next, sizing-bounds, sizing-done, cut-order}
 use Prim.Native.Nat.{_-_}
 use lib.ListN.{length}
-use Rattle.blocks.proofs.Puts.{row-there}
+use Rattle.blocks.proofs.Starts.{row-there}
+use Rattle.chunks.proofs.Cuts.{Sizing, sizing-none, sizing-next, sizing-bounds, sizing-done, cut-order, end-found}
 use native.Mathlib.Omega.{arith}
 use borrow.Author.Needs.{needs}
 use Rattle.chunks.proofs.cut_size.Statement.{statement}
@@ -10,15 +10,19 @@ use Rattle.chunks.proofs.cut_size.Reads as reads
 use Rattle.chunks.proofs.cut_size.Lts as lts
 use Rattle.chunks.proofs.cut_splice.Reads as cut-splice-reads
 use Rattle.chunks.proofs.pad_at.Reads as pad-at-reads
+use Rattle.text.proofs.line_to_char.Reads as line-to-char-reads
 
 abbrev Inv-loop : tie.InvT-loop
-Inv-loop text widths pads row col gone₀ payload₀ k₀ gone payload k = Sizing text row (col .0) widths pads gone payload k
+Inv-loop text widths pads row col gone₀ payload₀ start₀ k₀ gone payload start k = Sizing text row (col .0) widths pads gone payload start k
 
 abbrev μ-loop : tie.MeasureT-loop
-μ-loop text widths pads row col gone₀ payload₀ k₀ gone payload k = length widths - k
+μ-loop text widths pads row col gone₀ payload₀ start₀ k₀ gone payload start k = length widths - k
+
+line-to-char-requires : tie.Need-line-to-char-requires Inv-loop μ-loop
+line-to-char-requires c κs = search needs
 
 loop-holds : tie.Need-loop-holds Inv-loop μ-loop
-loop-holds c = let a = c .before .before .before .before .args in sizing-none (a .text .now) (a .at .row .0) (a .at .col .0) (a .widths .now) (a .pads .now)
+loop-holds c = let a = c .before .before .before .before .before .args in sizing-none (a .text .now) (a .at .row .0) (a .at .col .0) (a .widths .now) (a .pads .now) _ (c .line-to-char .ensures)
 
 cast-cut-splice : tie.Need-cast-cut-splice Inv-loop μ-loop
 cast-cut-splice c = search needs
@@ -36,31 +40,34 @@ pad-at-requires : tie.Need-pad-at-requires Inv-loop μ-loop
 pad-at-requires c κs = search needs
 
 cut-splice-requires : tie.Need-cut-splice-requires Inv-loop μ-loop
-cut-splice-requires c κs = let a = c .before .before .before .before .before .before .before .before .args in (c .before .before .before .before .before .before .before .before .pre .0, row-there (a .text .now) (a .at .row .0) (c .before .before .before .loop .k) (length (a .widths .now)) (c .before .before .loop-test .taken) (c .before .before .before .before .before .before .before .before .pre .3))
+cut-splice-requires c κs = let a = c .before .before .before .before .before .before .before .before .before .args in (c .before .before .before .before .before .before .before .before .before .pre .0, row-there (a .text .now) (a .at .row .0) (c .before .before .before .loop .k) (length (a .widths .now)) (c .before .before .loop-test .taken) (c .before .before .before .before .before .before .before .before .before .pre .3), c .before .before .before .loop .inv .begins (c .before .before .loop-test .taken))
 
 sub-gone : tie.Need-sub-gone Inv-loop μ-loop
-sub-gone c = let q = cut-order (c .before .before .before .before .before .loop .inv) (c .before .before .before .before .loop-test .taken) (c .before .before .before .before .before .before .before .before .before .before .pre .3) (c .before .before .pad-at .result) (c .before .before .pad-at .ensures) (c .before .cut-splice .result) (c .before .cut-splice .ensures) in omega (arith, q .0, q .1)
+sub-gone c = let q = cut-order (c .before .before .before .before .before .loop .inv) (c .before .before .before .before .loop-test .taken) (c .before .before .before .before .before .before .before .before .before .before .before .pre .3) (c .before .before .pad-at .result) (c .before .before .pad-at .ensures) (c .before .cut-splice .result) (c .before .cut-splice .ensures) in omega (arith, q .0, q .1)
 
 add-gone : tie.Need-add-gone Inv-loop μ-loop
-add-gone c = let q = sizing-bounds (sizing-next (c .before .before .before .before .before .loop .inv) (c .before .before .before .before .loop-test .taken) (c .before .before .before .before .before .before .before .before .before .before .pre .3) (c .before .before .pad-at .result) (c .before .before .pad-at .ensures) (c .before .cut-splice .result) (c .before .cut-splice .ensures)) in omega (arith, q .0, q .1, c .before .before .before .before .before .before .before .before .before .before .pre .0)
+add-gone c = let q = sizing-bounds (sizing-next (c .before .before .before .before .before .loop .inv) (c .before .before .before .before .loop-test .taken) (c .before .before .before .before .before .before .before .before .before .before .before .pre .3) (c .before .before .pad-at .result) (c .before .before .pad-at .ensures) (c .before .cut-splice .result) (c .before .cut-splice .ensures)) in omega (arith, q .0, q .1, c .before .before .before .before .before .before .before .before .before .before .before .pre .0)
 
 sub-payload : tie.Need-sub-payload Inv-loop μ-loop
-sub-payload c = let q = cut-order (c .before .before .before .before .before .before .loop .inv) (c .before .before .before .before .before .loop-test .taken) (c .before .before .before .before .before .before .before .before .before .before .before .pre .3) (c .before .before .before .pad-at .result) (c .before .before .before .pad-at .ensures) (c .before .before .cut-splice .result) (c .before .before .cut-splice .ensures) in omega (arith, q .0, q .1)
+sub-payload c = let q = cut-order (c .before .before .before .before .before .before .loop .inv) (c .before .before .before .before .before .loop-test .taken) (c .before .before .before .before .before .before .before .before .before .before .before .before .pre .3) (c .before .before .before .pad-at .result) (c .before .before .before .pad-at .ensures) (c .before .before .cut-splice .result) (c .before .before .cut-splice .ensures) in omega (arith, q .0, q .1)
 
 add-payload : tie.Need-add-payload Inv-loop μ-loop
-add-payload c = let q = sizing-bounds (sizing-next (c .before .before .before .before .before .before .loop .inv) (c .before .before .before .before .before .loop-test .taken) (c .before .before .before .before .before .before .before .before .before .before .before .pre .3) (c .before .before .before .pad-at .result) (c .before .before .before .pad-at .ensures) (c .before .before .cut-splice .result) (c .before .before .cut-splice .ensures)) in omega (arith, q .0, q .1, c .before .before .before .before .before .before .before .before .before .before .before .pre .0)
+add-payload c = let q = sizing-bounds (sizing-next (c .before .before .before .before .before .before .loop .inv) (c .before .before .before .before .before .loop-test .taken) (c .before .before .before .before .before .before .before .before .before .before .before .before .pre .3) (c .before .before .before .pad-at .result) (c .before .before .before .pad-at .ensures) (c .before .before .cut-splice .result) (c .before .before .cut-splice .ensures)) in omega (arith, q .0, q .1, c .before .before .before .before .before .before .before .before .before .before .before .before .pre .0)
+
+add-start : tie.Need-add-start Inv-loop μ-loop
+add-start c = omega (arith, end-found (c .before .before .before .before .before .before .before .loop .inv) (c .before .before .before .before .before .before .loop-test .taken) (c .before .before .before .before .before .before .before .before .before .before .before .before .before .pre .3) (c .before .before .before .before .pad-at .result) (c .before .before .before .before .pad-at .ensures) (c .before .before .before .cut-splice .result) (c .before .before .before .cut-splice .ensures), c .before .before .before .before .before .before .before .before .before .before .before .before .before .pre .0)
 
 add-k : tie.Need-add-k Inv-loop μ-loop
-add-k c = search needs
+add-k c = omega (arith, c .before .before .before .before .before .before .loop-test .taken, c .before .before .before .before .before .before .before .before .before .before .before .before .before .pre .2)
 
 loop-less : tie.Need-loop-less Inv-loop μ-loop
 loop-less c = search needs
 
 loop-again : tie.Need-loop-again Inv-loop μ-loop
-loop-again c = sizing-next (c .before .before .before .before .before .before .loop .inv) (c .before .before .before .before .before .loop-test .taken) (c .before .before .before .before .before .before .before .before .before .before .before .pre .3) (c .before .before .before .pad-at .result) (c .before .before .before .pad-at .ensures) (c .before .before .cut-splice .result) (c .before .before .cut-splice .ensures)
+loop-again c = sizing-next (c .before .before .before .before .before .before .before .loop .inv) (c .before .before .before .before .before .before .loop-test .taken) (c .before .before .before .before .before .before .before .before .before .before .before .before .before .pre .3) (c .before .before .before .before .pad-at .result) (c .before .before .before .before .pad-at .ensures) (c .before .before .before .cut-splice .result) (c .before .before .before .cut-splice .ensures)
 
-sub-t19 : tie.Need-sub-t19 Inv-loop μ-loop
-sub-t19 c = sizing-bounds (c .before .loop .inv) .0
+sub-t22 : tie.Need-sub-t22 Inv-loop μ-loop
+sub-t22 c = sizing-bounds (c .before .loop .inv) .0
 
 returns : tie.Need-returns Inv-loop μ-loop
 returns c = sizing-done (c .before .loop .inv) (omega arith)
@@ -71,6 +78,7 @@ cut-size-spec =
     (tie.spec
     Inv-loop
     μ-loop
+    line-to-char-requires
     loop-holds
     cast-cut-splice
     add-cut-splice
@@ -82,8 +90,9 @@ cut-size-spec =
     add-gone
     sub-payload
     add-payload
+    add-start
     add-k
     loop-less
     loop-again
-    sub-t19
+    sub-t22
     returns)
