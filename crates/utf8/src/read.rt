@@ -8,8 +8,9 @@ ghost use mathlib.Core.Bool.{cond};
 ghost use mathlib.Core.List.{List, [], _∷_, _++_};
 ghost use Prim.Native.Nat.{ℕ, _-_, _≤_, _<_};
 ghost use lib.Count.{leadingZeros};
+ghost use lib.Dec.{eqb};
 ghost use lib.ListN.{length, drop};
-ghost use Rattle.utf8.specs.Rfc3629.{UTF8-tail, UTF8-2, UTF8-3, UTF8-4, UTF8-char, begins, taken, number};
+ghost use Rattle.utf8.specs.Rfc3629.{UTF8-2, UTF8-3, UTF8-4, UTF8-char, taken, number};
 ghost use Rattle.utf8.specs.Lead.{announced};
 ghost use Rattle.utf8.specs.Reading.{Reading, reading};
 ghost use Rattle.utf8.specs.Answers.{paperStep, paperScalarCount, paperDecoded};
@@ -35,44 +36,36 @@ fn is_two(a: u8, b: u8) -> bool
     (0xC2 <= a) & (a <= 0xDF) & (0x80 <= b) & (b <= 0xBF)
 }
 
-// A row of UTF8-3: the ends of its first and of its second range, and the octets held to it.
-fn row_three(low: u8, high: u8, low2: u8, high2: u8, a: u8, b: u8, c: u8) -> bool
-    ensures { λ r. ⌜ ((s : List ℕ) → begins ((low, high) ∷ (low2, high2) ∷ UTF8-tail ∷ []) (a ∷ b ∷ c ∷ s) ≡ r) ⌝ }
+// An end of the second octet's range: one lead has an end of its own.
+fn end_after(lead: u8, edge: u8, end: u8, other: u8) -> u8
+    ensures { λ r. ⌜ r ≡ cond (eqb lead edge) end other ⌝ }
 {
-    (low <= a) & (a <= high) & (low2 <= b) & (b <= high2) & (0x80 <= c) & (c <= 0xBF)
+    if lead == edge { end } else { other }
 }
 
 // UTF8-3
 fn is_three(a: u8, b: u8, c: u8) -> bool
     ensures { λ r. ⌜ ((s : List ℕ) → taken UTF8-3 (a ∷ b ∷ c ∷ s) ≡ cond r 3 0) ⌝ }
 {
-    row_three(0xE0, 0xE0, 0xA0, 0xBF, a, b, c)
-        | row_three(0xE1, 0xEC, 0x80, 0xBF, a, b, c)
-        | row_three(0xED, 0xED, 0x80, 0x9F, a, b, c)
-        | row_three(0xEE, 0xEF, 0x80, 0xBF, a, b, c)
-}
-
-// A row of UTF8-4: the ends of its first and of its second range, and the octets held to it.
-fn row_four(low: u8, high: u8, low2: u8, high2: u8, a: u8, b: u8, c: u8, d: u8) -> bool
-    ensures { λ r. ⌜ ((s : List ℕ) → begins ((low, high) ∷ (low2, high2) ∷ UTF8-tail ∷ UTF8-tail ∷ []) (a ∷ b ∷ c ∷ d ∷ s) ≡ r) ⌝ }
-{
-    (low <= a)
-        & (a <= high)
-        & (low2 <= b)
-        & (b <= high2)
-        & (0x80 <= c)
-        & (c <= 0xBF)
-        & (0x80 <= d)
-        & (d <= 0xBF)
+    let low = end_after(a, 0xE0, 0xA0, 0x80);
+    let high = end_after(a, 0xED, 0x9F, 0xBF);
+    (0xE0 <= a) & (a <= 0xEF) & (low <= b) & (b <= high) & (0x80 <= c) & (c <= 0xBF)
 }
 
 // UTF8-4
 fn is_four(a: u8, b: u8, c: u8, d: u8) -> bool
     ensures { λ r. ⌜ ((s : List ℕ) → taken UTF8-4 (a ∷ b ∷ c ∷ d ∷ s) ≡ cond r 4 0) ⌝ }
 {
-    row_four(0xF0, 0xF0, 0x90, 0xBF, a, b, c, d)
-        | row_four(0xF1, 0xF3, 0x80, 0xBF, a, b, c, d)
-        | row_four(0xF4, 0xF4, 0x80, 0x8F, a, b, c, d)
+    let low = end_after(a, 0xF0, 0x90, 0x80);
+    let high = end_after(a, 0xF4, 0x8F, 0xBF);
+    (0xF0 <= a)
+        & (a <= 0xF4)
+        & (low <= b)
+        & (b <= high)
+        & (0x80 <= c)
+        & (c <= 0xBF)
+        & (0x80 <= d)
+        & (d <= 0xBF)
 }
 
 fn number_of_two(a: u8, b: u8) -> u32
