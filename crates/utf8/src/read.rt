@@ -178,7 +178,18 @@ pub fn read_scalar(bytes: &[u8], at: ByteOffset) -> Step
     read_long(bytes, start, ones)
 }
 
-// How many scalars the bytes hold. ASCII is read here, so that a run of it makes no call.
+// Whether three octets of UTF8-3 stand at `start`.
+fn starts_three(bytes: &[u8], start: usize) -> bool
+    requires { ⌜ start < length (now bytes) ⌝ }
+    ensures { λ r. ⌜ r ≡ eqb (taken UTF8-3 (drop start (now (bytes .entry)))) 3 ⌝ }
+{
+    if bytes.len() - start < 3 {
+        return false;
+    }
+    is_three(bytes[start], bytes[start + 1], bytes[start + 2])
+}
+
+// How many scalars the bytes hold. One and three octets are read here, so that a run of them makes no call.
 pub fn count_scalars(bytes: &[u8]) -> ScalarCount
     ensures { λ r. ⌜ paperScalarCount r ≡ counted (reading (now (bytes .entry))) ⌝ }
 {
@@ -188,6 +199,9 @@ pub fn count_scalars(bytes: &[u8]) -> ScalarCount
         let start = at.0;
         if bytes[start] <= 0x7F {
             at = ByteOffset(start + 1);
+            count += 1;
+        } else if starts_three(bytes, start) {
+            at = ByteOffset(start + 3);
             count += 1;
         } else {
             let Step::Scalar { value: _, next } = read_scalar(bytes, at) else {
@@ -200,26 +214,31 @@ pub fn count_scalars(bytes: &[u8]) -> ScalarCount
     ScalarCount::Scalars(count)
 }
 
-// The scalars of well-formed bytes, to the front of a slice that has room for them.
+// The scalars of well-formed bytes, to the front of a slice that has room for them. The lead alone tells how many octets stand
+// there.
 fn fill_scalars(bytes: &[u8], out: &mut [u32])
     requires { ⌜ fillable (reading (now bytes)) (length (now out)) ⌝ }
     ensures { λ _. ⌜ now (out .exit) ≡ over (scalarsOf (reading (now (bytes .entry)))) (now (out .entry)) ⌝ }
 {
     let mut count = 0;
-    let mut at = ByteOffset(0);
-    while at.0 < bytes.len() {
-        let start = at.0;
-        let lead = bytes[start];
+    let mut at = 0;
+    while at < bytes.len() {
+        let lead = bytes[at];
         if lead <= 0x7F {
             out[count] = wide(lead);
-            at = ByteOffset(start + 1);
+            at += 1;
+            count += 1;
+        } else if lead <= 0xDF {
+            out[count] = number_of_two(lead, bytes[at + 1]);
+            at += 2;
+            count += 1;
+        } else if lead <= 0xEF {
+            out[count] = number_of_three(lead, bytes[at + 1], bytes[at + 2]);
+            at += 3;
             count += 1;
         } else {
-            let Step::Scalar { value, next } = read_scalar(bytes, at) else {
-                return;
-            };
-            out[count] = value;
-            at = next;
+            out[count] = number_of_four(lead, bytes[at + 1], bytes[at + 2], bytes[at + 3]);
+            at += 4;
             count += 1;
         }
     }
