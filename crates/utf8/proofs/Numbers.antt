@@ -1,12 +1,12 @@
 -- Character numbers: the table of section 3, row by row.
 use mathlib.Core.Path.{_≡_, refl}
-use mathlib.Core.Bool.{Bool, true, false, not, _||_, or-true}
+use mathlib.Core.Bool.{Bool, true, false, not, _&&_, _||_, or-true}
 use mathlib.Core.List.{List, [], _∷_}
 use mathlib.Core.Logic.{_⊎_, inl, inr, ⊎-elim}
 use Prim.Native.Nat.{ℕ, _+_, _/_, _%_, _≤_, _<_}
 use native.Mathlib.Omega.{arith}
-use borrow.Author.Tests.{le-leb, lt-leb, leb-true, leb-false, not-true}
-use lib.Dec.{leb}
+use borrow.Author.Tests.{le-leb, lt-leb, leb-true, leb-false, ltb-true, not-true}
+use lib.Dec.{leb, ltb}
 use lib.ListN.{length}
 use Rattle.promise.specs.Paper.{done, refused}
 use Rattle.utf8.specs.Rfc3629.{within, scalar, octets}
@@ -41,6 +41,9 @@ at-most c k = go (leb c k) refl
     go : (b : Bool) → leb c k ≡ b → (c ≤ k) ⊎ (k < c)
     go true e = inl (leb-true c k e)
     go false e = inr (leb-false c k e)
+
+pub between : (l h c : ℕ) → (ltb l c && leb c h) ≡ true → (l < c) × (c ≤ h)
+between l h c e = let w = both (ltb l c) (leb c h) e in (ltb-true l c (w .0), leb-true c h (w .1))
 
 module _ (c : ℕ) where
   pub octets-1 : c ≤ 0x7F → octets c ≡ c ∷ []

@@ -4,16 +4,17 @@ use mathlib.Core.Bool.{Bool, true, false, cond}
 use mathlib.Core.List.{List, [], _∷_, _++_}
 use Prim.Native.Nat.{ℕ, suc, _+_, _-_, _≤_, _<_}
 use native.Mathlib.Omega.{arith}
-use borrow.Author.Tests.{ne-eqb}
+use borrow.Author.Tests.{ne-eqb, eqb-true}
 use lib.Count.{leadingZeros}
-use lib.ListN.{length, drop, getD, length-drop}
+use lib.Dec.{eqb}
+use lib.ListN.{length, take, drop, getD, length-drop}
 use lib.Seq.{take-at}
 use Rattle.promise.proofs.Lists.{next}
 use Rattle.promise.specs.Paper.{done, refused}
-use Rattle.utf8.specs.Rfc3629.{Range, UTF8-char, taken, number}
+use Rattle.utf8.specs.Rfc3629.{Range, UTF8-3, UTF8-char, taken, number}
 use Rattle.utf8.specs.Lead.{announced}
 use Rattle.utf8.specs.Calls.{stepped, stepBy}
-use Rattle.utf8.proofs.Lead.{leads}
+use Rattle.utf8.proofs.Lead.{leads, three-char}
 use Rattle.utf8.proofs.Agree.{takes-1}
 use Rattle.utf8.proofs.Taken.{longRows, taken-short}
 
@@ -56,3 +57,21 @@ unannounced s i o h p q r = rw (ne-eqb o 0 (omega arith), ne-eqb o 2 p, ne-eqb o
 pub ascii : (s : List ℕ) (i v : ℕ) → i < length s → getD s i 0 ≤ 0x7F → v ≡ getD s i 0 → done (v, i + 1) ≡ stepBy UTF8-char s i
 unfolding number
 ascii s i v h k f = found UTF8-char s (getD s i 0 ∷ []) (drop (i + 1) s) i 0 true (next s i h) refl (takes-1 (getD s i 0) (drop (i + 1) s) k) v refl f
+
+-- UTF8-3 tested where it stands
+pub three-cut : (s : List ℕ) (i : ℕ) → length s - i < 3 → false ≡ eqb (taken UTF8-3 (drop i s)) 3
+three-cut s i h = rw (taken-short 3 UTF8-3 (drop i s) refl (simp length-drop h))
+
+pub three-tested : (s : List ℕ) (i : ℕ) (r : Bool) → i + 2 < length s → ((q : List ℕ) → taken UTF8-3 (getD s i 0 ∷ getD s (i + 1) 0 ∷ getD s (i + 2) 0 ∷ q) ≡ cond r 3 0)
+    → r ≡ eqb (taken UTF8-3 (drop i s)) 3
+three-tested s i r h t = rw (next-3 s i h, t (drop (i + 3) s)) (go r)
+  where
+    go : (b : Bool) → b ≡ eqb (cond b 3 0) 3
+    go true = refl
+    go false = refl
+
+pub three-step : (s : List ℕ) (i : ℕ) → i < length s → eqb (taken UTF8-3 (drop i s)) 3 ≡ true → done (number (take 3 (drop i s)), i + 3) ≡ stepBy UTF8-char s i
+unfolding stepped
+three-step s i h e =
+    let t : taken UTF8-char (drop i s) ≡ 3 = rw (next s i h) (three-char (getD s i 0) (drop (i + 1) s) (rw (next s i h) at (eqb-true (taken UTF8-3 (drop i s)) 3 e))) in
+    rw t

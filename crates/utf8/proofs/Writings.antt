@@ -2,10 +2,11 @@
 use mathlib.Core.Path.{_≡_, refl, sym, ap, _∙_}
 use mathlib.Core.Bool.{Bool, true, false, cond}
 use mathlib.Core.List.{List, [], _∷_, _++_}
-use Prim.Native.Nat.{ℕ, _+_, _*_, _≤_, _<_}
+use Prim.Native.Nat.{ℕ, _+_, _*_, _/_, _%_, _≤_, _<_}
 use native.Mathlib.Nat.{add-zero, zero-add}
+use native.Mathlib.Numerals.{add-one, add-two}
 use native.Mathlib.Omega.{arith}
-use lib.ListN.{length, take, drop, getD, length-append, length-drop, drop-of-length-le}
+use lib.ListN.{length, take, drop, getD, set, length-append, length-drop, drop-of-length-le}
 use lib.Seq.{sets}
 use Rattle.promise.specs.Paper.{Paper, done, refused}
 use Rattle.utf8.specs.Rfc3629.{scalar, octets}
@@ -14,7 +15,7 @@ use Rattle.promise.specs.Slices.{over}
 use Rattle.utf8.specs.Calls.{outcome, stored, sequenceOf, octetsIn, octetCount, encoded}
 use Rattle.promise.proofs.Bools.{both}
 use Rattle.promise.proofs.Lists.{next}
-use Rattle.utf8.proofs.Numbers.{octets-len}
+use Rattle.utf8.proofs.Numbers.{scalar-low, octets-1, octets-3, octets-len, sequence-good}
 use Rattle.utf8.proofs.Stores.{stored-not, stored-all, stored-more, stored-rest, stored-end}
 
 -- the octets that a sequence has tell whether its value is a scalar
@@ -37,6 +38,12 @@ some-octets c h = go (scalar c) h
 pub octets-in : (c : ℕ) → scalar c ≡ true → octetsIn (sequenceOf c) ≡ octets c
 unfolding sequenceOf
 octets-in c e = rw e
+
+pub one-long : (c : ℕ) → c ≤ 0x7F → 1 ≡ length (octetsIn (sequenceOf c))
+one-long c h = rw (octets-in c (scalar-low c (omega arith)), octets-1 c h)
+
+pub three-long : (c : ℕ) → 0x7FF < c → c ≤ 0xD7FF → 3 ≡ length (octetsIn (sequenceOf c))
+three-long c l h = rw (octets-in c (scalar-low c h), octets-3 c l (omega arith))
 
 -- no character takes more than four octets
 pub writing-len : (cs : List ℕ) → length (writing cs) ≤ length cs * 4
@@ -99,6 +106,48 @@ module _ (cs b t : List ℕ) (i at : ℕ) (p : Paper (List ℕ)) (h : i < length
         stored-rest (writing cs) b t (octetsIn p) r at inv fill-octets (omega arith) (omega arith),
         stored-more (writing cs) b t (octetsIn p) r at inv fill-octets (omega arith) (omega arith),
       )
+
+-- a turn that left t, and went on at octet `at`
+abbrev pub Filled : List ℕ → List ℕ → ℕ → ℕ → List ℕ → Type 0
+Filled cs b i at t =
+    (at ≤ length (writing cs)) × (allScalar (drop (i + 1) cs) ≡ true) × (drop at (writing cs) ≡ writing (drop (i + 1) cs)) × (t ≡ take at (writing cs) ++ drop at b)
+
+-- One octet and three, stored one by one.
+module _ (cs b t : List ℕ) (i at : ℕ) (h : i < length cs) (all : allScalar (drop i cs) ≡ true) (d : drop at (writing cs) ≡ writing (drop i cs)) (room : length (writing cs) ≤ length b) where
+  one : Paper (List ℕ)
+  one = done (getD cs i 0 ∷ [])
+
+  three : Paper (List ℕ)
+  three = done ((0b1110_0000 + getD cs i 0 / 64 / 64) ∷ (0b10_000000 + getD cs i 0 / 64 % 64) ∷ (0b10_000000 + getD cs i 0 % 64) ∷ [])
+
+  module _ (u : getD cs i 0 ≤ 0x7F) where
+    one-is : one ≡ sequenceOf (getD cs i 0)
+    unfolding one
+    one-is = sequence-good (getD cs i 0) _ (scalar-low (getD cs i 0) (omega arith)) (octets-1 (getD cs i 0) u)
+
+    pub one-room : at + 1 ≤ length (writing cs)
+    unfolding one
+    one-room = fill-room cs b t i at one h one-is all d room
+
+    pub one-again : t ≡ take at (writing cs) ++ drop at b → Filled cs b i (at + 1) (set t at (getD cs i 0))
+    unfolding one
+    one-again inv = let r = fill-again cs b t i at one h one-is all d room inv in (one-room, r .0, r .1, r .2)
+
+  module _ (l : 0x7FF < getD cs i 0) (u : getD cs i 0 ≤ 0xFFFF) where
+    three-is : three ≡ sequenceOf (getD cs i 0)
+    unfolding three allScalar
+    three-is = sequence-good (getD cs i 0) _ (both (scalar (getD cs i 0)) (allScalar (drop (i + 1) cs)) (rw (next cs i h) at all) .0) (octets-3 (getD cs i 0) l u)
+
+    pub three-room : at + 3 ≤ length (writing cs)
+    unfolding three
+    three-room = fill-room cs b t i at three h three-is all d room
+
+    pub three-again : (x y z : ℕ) → x ≡ 0b1110_0000 + getD cs i 0 / 64 / 64 → y ≡ 0b10_000000 + getD cs i 0 / 64 % 64 → z ≡ 0b10_000000 + getD cs i 0 % 64
+        → t ≡ take at (writing cs) ++ drop at b → Filled cs b i (at + 3) (set (set (set t at x) (at + 1) y) (at + 2) z)
+    unfolding three
+    three-again x y z ex ey ez inv =
+        let r = fill-again cs b t i at three h three-is all d room inv in
+        (three-room, r .0, r .1, rw (ex, ey, ez, add-one at, add-two at) (r .2))
 
 pub fill-all : (cs b t : List ℕ) (i at : ℕ) → length cs ≤ i → drop at (writing cs) ≡ writing (drop i cs) → at ≤ length (writing cs)
     → t ≡ take at (writing cs) ++ drop at b → t ≡ over (writing cs) b

@@ -8,8 +8,9 @@ ghost use mathlib.Core.Bool.{cond};
 ghost use mathlib.Core.List.{List, [], _∷_, _++_};
 ghost use Prim.Native.Nat.{ℕ, _-_, _≤_, _<_};
 ghost use lib.Count.{leadingZeros};
+ghost use lib.Dec.{eqb};
 ghost use lib.ListN.{length, drop};
-ghost use Rattle.utf8.specs.Rfc3629.{UTF8-tail, UTF8-2, UTF8-3, UTF8-4, UTF8-char, begins, taken, number};
+ghost use Rattle.utf8.specs.Rfc3629.{UTF8-2, UTF8-3, UTF8-4, UTF8-char, taken, number};
 ghost use Rattle.utf8.specs.Lead.{announced};
 ghost use Rattle.utf8.specs.Reading.{Reading, reading};
 ghost use Rattle.utf8.specs.Answers.{paperStep, paperScalarCount, paperDecoded};
@@ -35,44 +36,36 @@ fn is_two(a: u8, b: u8) -> bool
     (0xC2 <= a) & (a <= 0xDF) & (0x80 <= b) & (b <= 0xBF)
 }
 
-// A row of UTF8-3: the ends of its first and of its second range, and the octets held to it.
-fn row_three(low: u8, high: u8, low2: u8, high2: u8, a: u8, b: u8, c: u8) -> bool
-    ensures { λ r. ⌜ ((s : List ℕ) → begins ((low, high) ∷ (low2, high2) ∷ UTF8-tail ∷ []) (a ∷ b ∷ c ∷ s) ≡ r) ⌝ }
+// An end of the second octet's range: one lead has an end of its own.
+fn end_after(lead: u8, edge: u8, end: u8, other: u8) -> u8
+    ensures { λ r. ⌜ r ≡ cond (eqb lead edge) end other ⌝ }
 {
-    (low <= a) & (a <= high) & (low2 <= b) & (b <= high2) & (0x80 <= c) & (c <= 0xBF)
+    if lead == edge { end } else { other }
 }
 
 // UTF8-3
 fn is_three(a: u8, b: u8, c: u8) -> bool
     ensures { λ r. ⌜ ((s : List ℕ) → taken UTF8-3 (a ∷ b ∷ c ∷ s) ≡ cond r 3 0) ⌝ }
 {
-    row_three(0xE0, 0xE0, 0xA0, 0xBF, a, b, c)
-        | row_three(0xE1, 0xEC, 0x80, 0xBF, a, b, c)
-        | row_three(0xED, 0xED, 0x80, 0x9F, a, b, c)
-        | row_three(0xEE, 0xEF, 0x80, 0xBF, a, b, c)
-}
-
-// A row of UTF8-4: the ends of its first and of its second range, and the octets held to it.
-fn row_four(low: u8, high: u8, low2: u8, high2: u8, a: u8, b: u8, c: u8, d: u8) -> bool
-    ensures { λ r. ⌜ ((s : List ℕ) → begins ((low, high) ∷ (low2, high2) ∷ UTF8-tail ∷ UTF8-tail ∷ []) (a ∷ b ∷ c ∷ d ∷ s) ≡ r) ⌝ }
-{
-    (low <= a)
-        & (a <= high)
-        & (low2 <= b)
-        & (b <= high2)
-        & (0x80 <= c)
-        & (c <= 0xBF)
-        & (0x80 <= d)
-        & (d <= 0xBF)
+    let low = end_after(a, 0xE0, 0xA0, 0x80);
+    let high = end_after(a, 0xED, 0x9F, 0xBF);
+    (0xE0 <= a) & (a <= 0xEF) & (low <= b) & (b <= high) & (0x80 <= c) & (c <= 0xBF)
 }
 
 // UTF8-4
 fn is_four(a: u8, b: u8, c: u8, d: u8) -> bool
     ensures { λ r. ⌜ ((s : List ℕ) → taken UTF8-4 (a ∷ b ∷ c ∷ d ∷ s) ≡ cond r 4 0) ⌝ }
 {
-    row_four(0xF0, 0xF0, 0x90, 0xBF, a, b, c, d)
-        | row_four(0xF1, 0xF3, 0x80, 0xBF, a, b, c, d)
-        | row_four(0xF4, 0xF4, 0x80, 0x8F, a, b, c, d)
+    let low = end_after(a, 0xF0, 0x90, 0x80);
+    let high = end_after(a, 0xF4, 0x8F, 0xBF);
+    (0xF0 <= a)
+        & (a <= 0xF4)
+        & (low <= b)
+        & (b <= high)
+        & (0x80 <= c)
+        & (c <= 0xBF)
+        & (0x80 <= d)
+        & (d <= 0xBF)
 }
 
 fn number_of_two(a: u8, b: u8) -> u32
@@ -185,7 +178,18 @@ pub fn read_scalar(bytes: &[u8], at: ByteOffset) -> Step
     read_long(bytes, start, ones)
 }
 
-// How many scalars the bytes hold. ASCII is read here, so that a run of it makes no call.
+// Whether three octets of UTF8-3 stand at `start`.
+fn starts_three(bytes: &[u8], start: usize) -> bool
+    requires { ⌜ start < length (now bytes) ⌝ }
+    ensures { λ r. ⌜ r ≡ eqb (taken UTF8-3 (drop start (now (bytes .entry)))) 3 ⌝ }
+{
+    if bytes.len() - start < 3 {
+        return false;
+    }
+    is_three(bytes[start], bytes[start + 1], bytes[start + 2])
+}
+
+// How many scalars the bytes hold. One and three octets are read here, so that a run of them makes no call.
 pub fn count_scalars(bytes: &[u8]) -> ScalarCount
     ensures { λ r. ⌜ paperScalarCount r ≡ counted (reading (now (bytes .entry))) ⌝ }
 {
@@ -195,6 +199,9 @@ pub fn count_scalars(bytes: &[u8]) -> ScalarCount
         let start = at.0;
         if bytes[start] <= 0x7F {
             at = ByteOffset(start + 1);
+            count += 1;
+        } else if starts_three(bytes, start) {
+            at = ByteOffset(start + 3);
             count += 1;
         } else {
             let Step::Scalar { value: _, next } = read_scalar(bytes, at) else {
@@ -207,26 +214,31 @@ pub fn count_scalars(bytes: &[u8]) -> ScalarCount
     ScalarCount::Scalars(count)
 }
 
-// The scalars of well-formed bytes, to the front of a slice that has room for them.
+// The scalars of well-formed bytes, to the front of a slice that has room for them. The lead alone tells how many octets stand
+// there.
 fn fill_scalars(bytes: &[u8], out: &mut [u32])
     requires { ⌜ fillable (reading (now bytes)) (length (now out)) ⌝ }
     ensures { λ _. ⌜ now (out .exit) ≡ over (scalarsOf (reading (now (bytes .entry)))) (now (out .entry)) ⌝ }
 {
     let mut count = 0;
-    let mut at = ByteOffset(0);
-    while at.0 < bytes.len() {
-        let start = at.0;
-        let lead = bytes[start];
+    let mut at = 0;
+    while at < bytes.len() {
+        let lead = bytes[at];
         if lead <= 0x7F {
             out[count] = wide(lead);
-            at = ByteOffset(start + 1);
+            at += 1;
+            count += 1;
+        } else if lead <= 0xDF {
+            out[count] = number_of_two(lead, bytes[at + 1]);
+            at += 2;
+            count += 1;
+        } else if lead <= 0xEF {
+            out[count] = number_of_three(lead, bytes[at + 1], bytes[at + 2]);
+            at += 3;
             count += 1;
         } else {
-            let Step::Scalar { value, next } = read_scalar(bytes, at) else {
-                return;
-            };
-            out[count] = value;
-            at = next;
+            out[count] = number_of_four(lead, bytes[at + 1], bytes[at + 2], bytes[at + 3]);
+            at += 4;
             count += 1;
         }
     }

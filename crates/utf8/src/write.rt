@@ -5,7 +5,7 @@ use crate::OctetCount;
 use crate::Sequence;
 ghost use mathlib.Core.Path.{_≡_};
 ghost use mathlib.Core.Bool.{true};
-ghost use Prim.Native.Nat.{_+_, _%_, _≤_};
+ghost use Prim.Native.Nat.{_+_, _/_, _%_, _≤_};
 ghost use lib.ListN.{length};
 ghost use lib.Seq.{sets};
 ghost use Rattle.utf8.specs.Rfc3629.{scalar};
@@ -27,6 +27,14 @@ fn tail(bits: u32) -> u8
     (0b1000_0000 + bits % 64) as u8
 }
 
+// The lead octet of three.
+fn lead_of_three(value: u32) -> u8
+    requires { ⌜ value ≤ 0xFFFF ⌝ }
+    ensures { λ r. ⌜ r ≡ 0b1110_0000 + value / 64 / 64 ⌝ }
+{
+    (0b1110_0000 + value / 64 / 64) as u8
+}
+
 // The octets of one scalar.
 pub fn sequence_of(value: u32) -> Sequence
     ensures { λ r. ⌜ paperSequence r ≡ sequenceOf value ⌝ }
@@ -41,11 +49,7 @@ pub fn sequence_of(value: u32) -> Sequence
         return Sequence::Two((0b1100_0000 + value / 64) as u8, tail(value));
     }
     if value <= 0xFFFF {
-        return Sequence::Three(
-            (0b1110_0000 + value / 64 / 64) as u8,
-            tail(value / 64),
-            tail(value),
-        );
+        return Sequence::Three(lead_of_three(value), tail(value / 64), tail(value));
     }
     Sequence::Four(
         (0b1111_0000 + value / 64 / 64 / 64) as u8,
@@ -68,19 +72,28 @@ fn octet_len(sequence: Sequence) -> usize
     }
 }
 
-// How many octets the scalars take.
+// How many octets the scalars take. One and three octets are counted here, so that a run of them makes no call.
 pub fn count_octets(scalars: &[u32]) -> OctetCount
     ensures { λ r. ⌜ paperOctetCount r ≡ octetCount (now (scalars .entry)) ⌝ }
 {
     let mut count = 0;
     let mut i = 0;
     while i < scalars.len() {
-        let len = octet_len(sequence_of(scalars[i]));
-        if len == 0 {
-            return OctetCount::BadText;
+        let value = scalars[i];
+        if value <= 0x7F {
+            count += 1;
+            i += 1;
+        } else if (0x7FF < value) & (value <= 0xD7FF) {
+            count += 3;
+            i += 1;
+        } else {
+            let len = octet_len(sequence_of(value));
+            if len == 0 {
+                return OctetCount::BadText;
+            }
+            count += len;
+            i += 1;
         }
-        count += len;
-        i += 1;
     }
     OctetCount::Octets(count)
 }
@@ -118,7 +131,8 @@ fn put(out: &mut [u8], at: ByteOffset, sequence: Sequence) -> ByteOffset
     }
 }
 
-// The octets of the scalars, to the front of a slice that has room for them.
+// The octets of the scalars, to the front of a slice that has room for them. One and three octets are written here, so that
+// a run of them makes no call.
 pub fn fill_octets(scalars: &[u32], out: &mut [u8])
     requires { ⌜ (allScalar (now scalars) ≡ true) × (length (writing (now scalars)) ≤ length (now out)) ⌝ }
     ensures { λ _. ⌜ now (out .exit) ≡ over (writing (now (scalars .entry))) (now (out .entry)) ⌝ }
@@ -126,8 +140,22 @@ pub fn fill_octets(scalars: &[u32], out: &mut [u8])
     let mut at = ByteOffset(0);
     let mut i = 0;
     while i < scalars.len() {
-        at = put(out, at, sequence_of(scalars[i]));
-        i += 1;
+        let value = scalars[i];
+        let start = at.0;
+        if value <= 0x7F {
+            out[start] = value as u8;
+            at = ByteOffset(start + 1);
+            i += 1;
+        } else if (0x7FF < value) & (value <= 0xFFFF) {
+            out[start] = lead_of_three(value);
+            out[start + 1] = tail(value / 64);
+            out[start + 2] = tail(value);
+            at = ByteOffset(start + 3);
+            i += 1;
+        } else {
+            at = put(out, at, sequence_of(value));
+            i += 1;
+        }
     }
 }
 

@@ -4,7 +4,7 @@ use native.Mathlib.Omega.{arith}
 use borrow.Author.Needs.{needs}
 use lib.ListN.{length, drop}
 use Rattle.utf8.proofs.Readings.{counting, count-none, count-again, count-bad, count-all}
-use Rattle.utf8.proofs.Steps.{ascii}
+use Rattle.utf8.proofs.Steps.{ascii, three-step}
 use Rattle.utf8.specs.Answers.{paperStep}
 use Rattle.utf8.specs.Calls.{counted}
 use Rattle.utf8.specs.Reading.{readFrom, reading}
@@ -37,6 +37,29 @@ loop-again c = let l = c .before .before .before .before .loop in let s = c .bef
     let t = count-again s (l .at .0) (l .count) (l .inv .2) _ (l .at .0 + 1) (ascii s (l .at .0) _ (c .before .before .if1 .taken) (c .if2 .taken) refl) (l .inv .0) (l .inv .1) in
     (t .0, t .1, t .3)
 
+starts-three-requires : tie.Need-starts-three-requires Inv-loop μ-loop
+starts-three-requires c κs = search needs
+
+add-t12 : tie.Need-add-t12 Inv-loop μ-loop
+add-t12 c = let l = c .before .before .before .before .before .before .loop in let s = c .before .before .before .before .before .before .before .before .args .bytes .now in
+    let t = count-again s (l .at .0) (l .count) (l .inv .2) _ (l .at .0 + 3) (three-step s (l .at .0) (c .before .before .before .before .if1 .taken) (sym (c .before .starts-three .ensures) ∙ c .if3 .taken)) (l .inv .0) (l .inv .1) in
+    omega arith
+
+add-count-2 : tie.Need-add-count-2 Inv-loop μ-loop
+add-count-2 c = let l = c .before .before .before .before .before .before .loop in let s = c .before .before .before .before .before .before .before .before .args .bytes .now in
+    let t = count-again s (l .at .0) (l .count) (l .inv .2) _ (l .at .0 + 3) (three-step s (l .at .0) (c .before .before .before .before .if1 .taken) (sym (c .before .starts-three .ensures) ∙ c .if3 .taken)) (l .inv .0) (l .inv .1) in
+    omega arith
+
+loop-less-2 : tie.Need-loop-less-2 Inv-loop μ-loop
+loop-less-2 c = let l = c .before .before .before .before .before .before .loop in let s = c .before .before .before .before .before .before .before .before .args .bytes .now in
+    let t = count-again s (l .at .0) (l .count) (l .inv .2) _ (l .at .0 + 3) (three-step s (l .at .0) (c .before .before .before .before .if1 .taken) (sym (c .before .starts-three .ensures) ∙ c .if3 .taken)) (l .inv .0) (l .inv .1) in
+    omega arith
+
+loop-again-2 : tie.Need-loop-again-2 Inv-loop μ-loop
+loop-again-2 c = let l = c .before .before .before .before .before .before .loop in let s = c .before .before .before .before .before .before .before .before .args .bytes .now in
+    let t = count-again s (l .at .0) (l .count) (l .inv .2) _ (l .at .0 + 3) (three-step s (l .at .0) (c .before .before .before .before .if1 .taken) (sym (c .before .starts-three .ensures) ∙ c .if3 .taken)) (l .inv .0) (l .inv .1) in
+    (t .0, t .1, t .3)
+
 read-scalar-requires : tie.Need-read-scalar-requires Inv-loop μ-loop
 read-scalar-requires c κs = search needs
 
@@ -47,19 +70,19 @@ enum-told : tie.Need-enum-told Inv-loop μ-loop
 enum-told c = search needs
 
 returns : tie.Need-returns Inv-loop μ-loop
-returns c = let l = c .before .before .before .before .before .before .before .loop in let g = c .enum-told .given in
-    count-bad _ (l .at .0) (l .count) (l .inv .2) (g .0 .0 .0) (ap paperStep (sym (g .1)) ∙ c .before .before .read-scalar .ensures) (c .before .before .before .before .before .if1 .taken)
+returns c = let l = c .before .before .before .before .before .before .before .before .before .loop in let g = c .enum-told .given in
+    count-bad _ (l .at .0) (l .count) (l .inv .2) (g .0 .0 .0) (ap paperStep (sym (g .1)) ∙ c .before .before .read-scalar .ensures) (c .before .before .before .before .before .before .before .if1 .taken)
 
-add-count-2 : tie.Need-add-count-2 Inv-loop μ-loop
-add-count-2 c = search needs
+add-count-3 : tie.Need-add-count-3 Inv-loop μ-loop
+add-count-3 c = search needs
 
-loop-less-2 : tie.Need-loop-less-2 Inv-loop μ-loop
-loop-less-2 c = let l = c .before .before .before .before .before .before .before .before .loop in let g = c .before .next .given in
+loop-less-3 : tie.Need-loop-less-3 Inv-loop μ-loop
+loop-less-3 c = let l = c .before .before .before .before .before .before .before .before .before .before .loop in let g = c .before .next .given in
     let t = count-again _ (l .at .0) (l .count) (l .inv .2) (g .0 .0) (g .0 .1 .0 .0) (ap paperStep (sym (g .1)) ∙ c .before .before .before .read-scalar .ensures) (l .inv .0) (l .inv .1) in
     omega arith
 
-loop-again-2 : tie.Need-loop-again-2 Inv-loop μ-loop
-loop-again-2 c = let l = c .before .before .before .before .before .before .before .before .loop in let g = c .before .next .given in
+loop-again-3 : tie.Need-loop-again-3 Inv-loop μ-loop
+loop-again-3 c = let l = c .before .before .before .before .before .before .before .before .before .before .loop in let g = c .before .next .given in
     let t = count-again _ (l .at .0) (l .count) (l .inv .2) (g .0 .0) (g .0 .1 .0 .0) (ap paperStep (sym (g .1)) ∙ c .before .before .before .read-scalar .ensures) (l .inv .0) (l .inv .1) in
     (t .0, t .1, t .3)
 
@@ -78,11 +101,16 @@ count-scalars-spec =
     add-count
     loop-less
     loop-again
+    starts-three-requires
+    add-t12
+    add-count-2
+    loop-less-2
+    loop-again-2
     read-scalar-requires
     enum-known-next
     enum-told
     returns
-    add-count-2
-    loop-less-2
-    loop-again-2
+    add-count-3
+    loop-less-3
+    loop-again-3
     returns-2)

@@ -1,22 +1,16 @@
 use borrow.Author.Needs.{needs}
-use Rattle.utf8.proofs.Taken.{cond-or-3}
-use Rattle.utf8.specs.Rfc3629.{taken}
+use Rattle.utf8.proofs.Taken.{four-test}
 use Rattle.utf8.proofs.read.is_four.Statement.{statement}
 use Rattle.utf8.proofs.read.is_four.Tie as tie
 
-row-four-requires : tie.Need-row-four-requires
-row-four-requires c κs = search needs
+end-after-requires : tie.Need-end-after-requires
+end-after-requires c κs = search needs
 
-row-four-requires-2 : tie.Need-row-four-requires-2
-row-four-requires-2 c κs = search needs
-
-row-four-requires-3 : tie.Need-row-four-requires-3
-row-four-requires-3 c κs = search needs
+end-after-requires-2 : tie.Need-end-after-requires-2
+end-after-requires-2 c κs = search needs
 
 returns : tie.Need-returns
-unfolding taken
-returns c = λ s. rw (c .before .before .row-four .ensures s, c .before .row-four2 .ensures s, c .row-four3 .ensures s, cond-or-3)
+returns c = λ s. let a = c .before .before .args in rw (c .before .end-after .ensures, c .end-after2 .ensures) (four-test (a .a) (a .b) (a .c) (a .d) s)
 
 pub is-four-spec : {M : Type 1} → statement M
-is-four-spec =
-    tie.close (tie.spec row-four-requires row-four-requires-2 row-four-requires-3 returns)
+is-four-spec = tie.close (tie.spec end-after-requires end-after-requires-2 returns)

@@ -31,11 +31,8 @@ returns-3 : tie.Need-returns-3
 returns-3 c = let v = c .before .before .before .before .before .args .value in
     sequence-good v _ (sym (c .before .before .before .is-scalar .ensures) ∙ not-false _ (c .before .before .if2 .left)) (octets-2 v (c .before .before .before .before .if1 .left) (c .before .if3 .taken) ∙ rw (c .tail .ensures))
 
-add-t11 : tie.Need-add-t11
-add-t11 c = search needs
-
-cast-t12 : tie.Need-cast-t12
-cast-t12 c = search needs
+lead-of-three-requires : tie.Need-lead-of-three-requires
+lead-of-three-requires c κs = search needs
 
 tail-requires-2 : tie.Need-tail-requires-2
 tail-requires-2 c κs = search needs
@@ -44,14 +41,14 @@ tail-requires-3 : tie.Need-tail-requires-3
 tail-requires-3 c κs = search needs
 
 returns-4 : tie.Need-returns-4
-returns-4 c = let v = c .before .before .before .before .before .before .before .args .value in
-    sequence-good v _ (sym (c .before .before .before .before .before .is-scalar .ensures) ∙ not-false _ (c .before .before .before .before .if2 .left)) (octets-3 v (c .before .before .before .if3 .left) (c .before .before .if4 .taken) ∙ rw (c .before .tail2 .ensures, c .tail3 .ensures))
+returns-4 c = let v = c .before .before .before .before .before .before .before .before .args .value in
+    sequence-good v _ (sym (c .before .before .before .before .before .before .is-scalar .ensures) ∙ not-false _ (c .before .before .before .before .before .if2 .left)) (octets-3 v (c .before .before .before .before .if3 .left) (c .before .before .before .if4 .taken) ∙ rw (c .before .before .lead-of-three .ensures, c .before .tail2 .ensures, c .tail3 .ensures))
 
-add-t19 : tie.Need-add-t19
-add-t19 c = search needs
+add-t16 : tie.Need-add-t16
+add-t16 c = search needs
 
-cast-t20 : tie.Need-cast-t20
-cast-t20 c = omega (arith, scalar-le (c .before .before .before .before .before .args .value) (sym (c .before .before .before .is-scalar .ensures) ∙ not-false _ (c .before .before .if2 .left)))
+cast-t17 : tie.Need-cast-t17
+cast-t17 c = omega (arith, scalar-le (c .before .before .before .before .before .args .value) (sym (c .before .before .before .is-scalar .ensures) ∙ not-false _ (c .before .before .if2 .left)))
 
 tail-requires-4 : tie.Need-tail-requires-4
 tail-requires-4 c κs = search needs
@@ -78,13 +75,12 @@ sequence-of-spec =
     cast-t7
     tail-requires
     returns-3
-    add-t11
-    cast-t12
+    lead-of-three-requires
     tail-requires-2
     tail-requires-3
     returns-4
-    add-t19
-    cast-t20
+    add-t16
+    cast-t17
     tail-requires-4
     tail-requires-5
     tail-requires-6
