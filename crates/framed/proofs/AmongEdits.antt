@@ -1,9 +1,9 @@
 -- Lines among edits, and what was read of an edit line applied.
 use mathlib.Core.Path.{_≡_, refl, sym, ap, _∙_}
 use mathlib.Core.List.{List, []}
-use Prim.Native.Nat.{ℕ, _-_, _≤_}
+use Prim.Native.Nat.{ℕ, _-_}
 use native.Mathlib.Omega.{arith}
-use lib.ListN.{length, take, drop, replicate, length-replicate}
+use lib.ListN.{take, drop}
 use Rattle.promise.specs.Paper.{Paper, refused}
 use Rattle.text.proofs.Texts.{front}
 use Rattle.edit.specs.declared.View.{View}
@@ -60,6 +60,3 @@ module _ (p : Paper Frame) (v : View) (b ox of os : List ℕ) where
   pub refusal-applied : (n k : ℕ) → p ≡ refused n k → outcome (refused n k) b ox of os ≡ frameApplied p v b ox of os
   unfolding frameApplied
   refusal-applied n k q = rw q
-
-pub zeros-long : (n : ℕ) → n ≤ length {A = ℕ} (replicate n 0)
-zeros-long n = omega (arith, length-replicate {A = ℕ} n 0)

@@ -7,7 +7,7 @@ use Prim.Native.Nat.{ℕ, zero, suc, _+_, _*_, _≤_}
 use native.Mathlib.Omega.{arith}
 use borrow.Author.Tests.{leb-true}
 use lib.Dec.{leb, eqb}
-use lib.ListN.{length, take, drop, length-append, length-take, length-drop, length-map}
+use lib.ListN.{length, take, drop, length-append, length-take, length-drop, length-map, replicate, length-replicate}
 use lib.Seq.{take-at}
 use Rattle.promise.specs.Paper.{Paper, done, refused}
 use Rattle.promise.specs.Slices.{over}
@@ -110,6 +110,10 @@ edit-modest l e h = go (lineOk l) refl h
     go false q h = let z : _≡_ {A = ℕ} 0 1 = cc in absurd (omega arith)
 
 -- ---- what the reader answered
+
+-- an array of zeros has its room
+pub zeros-long : (n : ℕ) → n ≤ length {A = ℕ} (replicate n 0)
+zeros-long n = omega (arith, length-replicate {A = ℕ} n 0)
 
 -- the front of a slice that w was stored to
 over-front : (w b y : List ℕ) (n : ℕ) → y ≡ over w b → n ≡ length w → (n ≤ length y) × (take n y ≡ w)

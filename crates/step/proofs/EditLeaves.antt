@@ -226,6 +226,3 @@ module _ (c : Script) (t m : List ℕ) (h : Ready c t m) (p : Paper Frame) where
       → left r t m u ≡ leaves (framed (stateOf c t m) p) m o
   unfolding framedBy
   line-leaves n k q r o u z = rw q (refusal-leaves c t m h r n o u z)
-
-pub zeros-long : (n : ℕ) → n ≤ length {A = ℕ} (replicate n 0)
-zeros-long n = omega (arith, length-replicate {A = ℕ} n 0)

@@ -1,8 +1,8 @@
 use Prim.Native.Nat.{ℕ}
 use lib.ListN.{replicate}
-use Rattle.reader.proofs.EditLines.{edit-modest, read-edit, read-refused, no-text, no-mark}
+use Rattle.reader.proofs.EditLines.{zeros-long, edit-modest, read-edit, read-refused, no-text, no-mark}
 use Rattle.frame.specs.Reads.{frameRead}
-use Rattle.framed.proofs.AmongEdits.{held-applied, refusal-applied, zeros-long}
+use Rattle.framed.proofs.AmongEdits.{held-applied, refusal-applied}
 use native.Mathlib.Omega.{arith}
 use borrow.Author.Needs.{needs}
 use Rattle.framed.proofs.apply_edit_line.Statement.{statement}

@@ -1,9 +1,9 @@
 use Prim.Native.Nat.{ℕ}
 use borrow.Author.Needs.{needs}
 use lib.ListN.{replicate}
-use Rattle.reader.proofs.EditLines.{edit-modest, read-edit, read-refused, no-text, no-mark}
+use Rattle.reader.proofs.EditLines.{zeros-long, edit-modest, read-edit, read-refused, no-text, no-mark}
 use Rattle.frame.specs.Reads.{frameRead}
-use Rattle.step.proofs.EditLeaves.{edit-leaves, line-leaves, zeros-long}
+use Rattle.step.proofs.EditLeaves.{edit-leaves, line-leaves}
 use Rattle.step.proofs.edits.step_edit.Statement.{statement}
 use Rattle.step.proofs.edits.step_edit.Tie as tie
 
