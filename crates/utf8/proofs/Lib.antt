@@ -5,6 +5,7 @@ pub mod Numbers
 pub mod Agree
 pub mod Stores
 pub mod Readings
+pub mod Runs
 pub mod Writings
 pub mod Theorems
 pub mod Settled

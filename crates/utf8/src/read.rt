@@ -4,12 +4,13 @@ use crate::Decoded;
 use crate::ScalarCount;
 use crate::Step;
 ghost use mathlib.Core.Path.{_≡_};
-ghost use mathlib.Core.Bool.{cond};
+ghost use mathlib.Core.Bool.{true, cond};
 ghost use mathlib.Core.List.{List, [], _∷_, _++_};
-ghost use Prim.Native.Nat.{ℕ, _-_, _≤_, _<_};
+ghost use Prim.Native.Nat.{ℕ, _+_, _-_, _≤_, _<_};
 ghost use lib.Count.{leadingZeros};
 ghost use lib.Dec.{eqb};
-ghost use lib.ListN.{length, drop};
+ghost use lib.ListN.{length, drop, getD};
+ghost use lib.Seq.{paste};
 ghost use Rattle.utf8.specs.Rfc3629.{UTF8-2, UTF8-3, UTF8-4, UTF8-char, taken, number};
 ghost use Rattle.utf8.specs.Lead.{announced};
 ghost use Rattle.utf8.specs.Reading.{Reading, reading};
@@ -178,6 +179,44 @@ pub fn read_scalar(bytes: &[u8], at: ByteOffset) -> Step
     read_long(bytes, start, ones)
 }
 
+// Whether the sixteen octets from `start` on are ASCII.
+fn is_block(bytes: &[u8], start: usize) -> bool
+    requires { ⌜ start + 16 ≤ length (now bytes) ⌝ }
+    ensures { λ r. ⌜ (r ≡ true → (k : ℕ) → k < 16 → getD (now (bytes .entry)) (start + k) 0 ≤ 0x7F) ⌝ }
+{
+    let mut all = true;
+    let mut k = 0;
+    while k < 16 {
+        all = all & (bytes[start + k] <= 0x7F);
+        k += 1;
+    }
+    all
+}
+
+// Whether sixteen octets that are ASCII start there. Only every sixteenth place is asked, so that a short run is not tried
+// again at each of its octets.
+fn starts_block(bytes: &[u8], start: usize) -> bool
+    requires { ⌜ start < length (now bytes) ⌝ }
+    ensures { λ r. ⌜ (r ≡ true → (start + 16 ≤ length (now (bytes .entry))) × ((k : ℕ) → k < 16 → getD (now (bytes .entry)) (start + k) 0 ≤ 0x7F)) ⌝ }
+{
+    if (start % 16 != 0) | (bytes.len() - start < 16) {
+        return false;
+    }
+    is_block(bytes, start)
+}
+
+// Sixteen octets as scalars.
+fn widen_block(bytes: &[u8], start: usize, out: &mut [u32], count: usize)
+    requires { ⌜ (start + 16 ≤ length (now bytes)) × (count + 16 ≤ length (now out)) ⌝ }
+    ensures { λ _. ⌜ now (out .exit) ≡ paste (now (out .entry)) count (drop start (now (bytes .entry))) 16 ⌝ }
+{
+    let mut k = 0;
+    while k < 16 {
+        out[count + k] = wide(bytes[start + k]);
+        k += 1;
+    }
+}
+
 // Whether three octets of UTF8-3 stand at `start`.
 fn starts_three(bytes: &[u8], start: usize) -> bool
     requires { ⌜ start < length (now bytes) ⌝ }
@@ -189,7 +228,7 @@ fn starts_three(bytes: &[u8], start: usize) -> bool
     is_three(bytes[start], bytes[start + 1], bytes[start + 2])
 }
 
-// How many scalars the bytes hold. One and three octets are read here, so that a run of them makes no call.
+// How many scalars the bytes hold. A run of one or three octets is read here, with no call of `read_scalar`.
 pub fn count_scalars(bytes: &[u8]) -> ScalarCount
     ensures { λ r. ⌜ paperScalarCount r ≡ counted (reading (now (bytes .entry))) ⌝ }
 {
@@ -198,8 +237,13 @@ pub fn count_scalars(bytes: &[u8]) -> ScalarCount
     while at.0 < bytes.len() {
         let start = at.0;
         if bytes[start] <= 0x7F {
-            at = ByteOffset(start + 1);
-            count += 1;
+            if starts_block(bytes, start) {
+                at = ByteOffset(start + 16);
+                count += 16;
+            } else {
+                at = ByteOffset(start + 1);
+                count += 1;
+            }
         } else if starts_three(bytes, start) {
             at = ByteOffset(start + 3);
             count += 1;
@@ -225,9 +269,15 @@ fn fill_scalars(bytes: &[u8], out: &mut [u32])
     while at < bytes.len() {
         let lead = bytes[at];
         if lead <= 0x7F {
-            out[count] = wide(lead);
-            at += 1;
-            count += 1;
+            if starts_block(bytes, at) {
+                widen_block(bytes, at, out, count);
+                at += 16;
+                count += 16;
+            } else {
+                out[count] = wide(lead);
+                at += 1;
+                count += 1;
+            }
         } else if lead <= 0xDF {
             out[count] = number_of_two(lead, bytes[at + 1]);
             at += 2;
