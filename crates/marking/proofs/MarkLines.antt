@@ -17,7 +17,7 @@ use Rattle.frame.proofs.Inverses.{marks-have-lines}
 use Rattle.writer.specs.declared.Written.{Written}
 use Rattle.writer.specs.Calls.{paperWritten, writtenInto}
 use Rattle.printing.specs.Prints.{printedAs}
-use Rattle.printing.proofs.WrittenLines.{ended}
+use Rattle.printing.proofs.WrittenLines.{line-ended}
 use Rattle.marking.specs.FlatMarks.{markIn}
 use Rattle.marking.specs.MarkLines.{markLine}
 use Rattle.marking.proofs.Carrying.{read-dropped, read-kept}
@@ -35,4 +35,4 @@ pub kept-line : (l out t : List ℕ) (m : Sel) (w : Written) → (getD l 0 0 ≡
 unfolding markLine
 kept-line l out t m w z q h e =
     let g : markIn l ≡ to m = read-kept l z ∙ ap to (sym q) in
-    rw g (ended (mark m) (marks-have-lines m) out t w (omega (arith, mark-digits m)) e 34 (mark-digits m))
+    rw g (line-ended (mark m) (marks-have-lines m) out t w (omega (arith, mark-digits m)) e 34 (mark-digits m))

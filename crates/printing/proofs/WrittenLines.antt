@@ -55,8 +55,8 @@ module _ (f : Frame) (h : HasLine f) (out t : List ℕ) (w : Written) (r : lengt
   fits = e ∙ rw h (sym (stored-all digits out (length digits) refl (over digits out) (omega arith) refl))
 
   -- its LF goes behind its digits
-  pub ended : (n : ℕ) → length digits ≡ n → (set t n 10 ≡ over (printedAs (frameBytes f)) out) × (n + 1 ≡ length (printedAs (frameBytes f)))
-  ended n l =
+  pub line-ended : (n : ℕ) → length digits ≡ n → (set t n 10 ≡ over (printedAs (frameBytes f)) out) × (n + 1 ≡ length (printedAs (frameBytes f)))
+  line-ended n l =
       (over-more t digits out n 10 (ap (λ (o : Outcome). o .out) fits) l (omega arith), omega (arith, length-append digits (10 ∷ [])))
 
   module _ (n : ℕ) (q : w ≡ Digits n) where
@@ -64,7 +64,7 @@ module _ (f : Frame) (h : HasLine f) (out t : List ℕ) (w : Written) (r : lengt
     count = let a : done n ≡ done (length digits) = ap paperWritten (sym q) ∙ ap (λ (o : Outcome). o .answer) fits in cc
 
     pub wrote-line : (set t n 10 ≡ over (printedAs (frameBytes f)) out) × (n + 1 ≡ length (printedAs (frameBytes f)))
-    wrote-line = ended n count
+    wrote-line = line-ended n count
 
   pub wrote-never : (y : Refusal) → w ≡ Refused y → ⊥
   wrote-never y q =

@@ -180,11 +180,11 @@ module _ (c : Script) (t m : List ℕ) (h : Ready c t m) where
               let l : length (flatMarks (map (carried s w) ms)) ≡ 5 * c .place .marks = omega (arith, length-marks (map (carried s w) ms), length-map ms (carried s w), count-marks (c .place .marks) m) in
               ap length moved ∙ simp (length-append, length-drop) (omega (arith, h .few, h .room))
 
-          pub accepted-leaves : (r : Progress) (o u m′ : List ℕ)
+          pub accept-leaves : (r : Progress) (o u m′ : List ℕ)
               → (r .script ≡ record { view = a .view; place = c .place }) × (m′ ≡ n) × (u ≡ over (printedAs (0 ∷ frameBytes (edit (inverseIn a back f g)))) o) × (r .printed ≡ length (printedAs (0 ∷ frameBytes (edit (inverseIn a back f g)))))
               → left r t′ m′ u ≡ leaves (ran s w) m o
           unfolding answered
-          accepted-leaves r o u m′ z =
+          accept-leaves r o u m′ z =
               let b : t′ ≡ call .text = ap (λ (i : Outcome). i .text) same in
               rw (ran-answered (done a) (answers ∙ q), b, z .0, z .1, z .2, z .3, moved, inverse-same)
 

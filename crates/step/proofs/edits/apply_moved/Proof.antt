@@ -2,7 +2,7 @@ use mathlib.Core.Path.{sym, ap}
 use borrow.Author.Needs.{needs}
 use Rattle.edit.specs.Call.{paperAnswer}
 use Rattle.edit.specs.Edits.{whole}
-use Rattle.step.proofs.EditLeaves.{back-long, accept-asked, moved-long, refused-leaves, accepted-leaves}
+use Rattle.step.proofs.EditLeaves.{back-long, accept-asked, moved-long, refused-leaves, accept-leaves}
 use Rattle.step.proofs.edits.apply_moved.Statement.{statement}
 use Rattle.step.proofs.edits.apply_moved.Tie as tie
 
@@ -64,7 +64,7 @@ same-length-5 : tie.Need-same-length-5
 same-length-5 c = search needs
 
 returns-2 : tie.Need-returns-2
-returns-2 c = let a = c .before .before .before .before .before .before .before .before .before .before .before .before .before .before .before .before .before .before .before .before .before .before .before .before .before .before .before .before .before .before .before .before .args in let p = c .before .before .before .before .before .before .before .before .before .before .before .before .before .before .before .before .before .before .before .before .before .before .before .before .before .before .before .before .before .before .before .before .pre in accepted-leaves (a .script) (a .text .now) (a .marks .now) (p .0) (whole (a .edit) (a .payload .now) (a .first .now) (a .second .now)) _ _ _ _ _ (c .before .before .before .before .before .before .before .before .before .before .before .before .before .before .before .before .before .before .apply-judged .ensures) (c .before .before .before .before .before .before .before .before .before .before .before .answer2 .given .0 .0) (ap paperAnswer (c .before .before .before .before .before .before .before .before .before .before .before .answer2 .given .1)) _ (p .3) _ _ _ _ (c .before .before .before .before .accept .ensures)
+returns-2 c = let a = c .before .before .before .before .before .before .before .before .before .before .before .before .before .before .before .before .before .before .before .before .before .before .before .before .before .before .before .before .before .before .before .before .args in let p = c .before .before .before .before .before .before .before .before .before .before .before .before .before .before .before .before .before .before .before .before .before .before .before .before .before .before .before .before .before .before .before .before .pre in accept-leaves (a .script) (a .text .now) (a .marks .now) (p .0) (whole (a .edit) (a .payload .now) (a .first .now) (a .second .now)) _ _ _ _ _ (c .before .before .before .before .before .before .before .before .before .before .before .before .before .before .before .before .before .before .apply-judged .ensures) (c .before .before .before .before .before .before .before .before .before .before .before .answer2 .given .0 .0) (ap paperAnswer (c .before .before .before .before .before .before .before .before .before .before .before .answer2 .given .1)) _ (p .3) _ _ _ _ (c .before .before .before .before .accept .ensures)
 
 pub apply-moved-spec : {M : Type 1} → statement M
 apply-moved-spec =
