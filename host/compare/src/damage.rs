@@ -82,10 +82,8 @@ fn lengthen(random: &mut Random, line: &mut Vec<u8>) {
     }
 }
 
-const USUAL: [fn(&mut Random, &mut Vec<u8>); 11] = [
+const USUAL: [fn(&mut Random, &mut Vec<u8>); 9] = [
     |random, line| change_digit(random, line),
-    |random, line| change_byte(random, line),
-    |random, line| change_byte(random, line),
     |random, line| change_first(random, line),
     |_, line| line.make_ascii_uppercase(),
     cut,
@@ -96,12 +94,12 @@ const USUAL: [fn(&mut Random, &mut Vec<u8>); 11] = [
     add_bytes,
 ];
 
-/// Does one thing to the line; seldom what takes long or leaves nothing.
+/// Does one thing to the line: often what leaves its form, seldom what takes long or leaves nothing.
 pub fn damage(random: &mut Random, line: &mut Vec<u8>) {
-    let what = match random.below(200) {
-        0 => lengthen,
-        1 => |_: &mut Random, line: &mut Vec<u8>| line.clear(),
-        _ => random.pick(&USUAL),
-    };
-    what(random, line);
+    match random.below(200) {
+        0 => lengthen(random, line),
+        1 => line.clear(),
+        2..100 => change_byte(random, line),
+        _ => random.pick(&USUAL)(random, line),
+    }
 }

@@ -9,6 +9,7 @@ use crate::bruises::bruise;
 use crate::calls::{Call, Whole};
 use crate::cases;
 use crate::damage::damage;
+use crate::forms;
 use crate::frames;
 use crate::guard::Guarded;
 use crate::law::{self, Answer, refusal};
@@ -33,7 +34,7 @@ pub struct Writing<'a> {
 
 impl Line<'_> {
     fn expected(&self) -> Answer<Done> {
-        let whole = frames::read_edit(self.line)?;
+        let whole = forms::read_edit(self.line)?;
         law::applied(&Call {
             whole,
             ..self.call.clone()
@@ -183,7 +184,8 @@ pub fn random(work: &mut Work) {
 pub fn damaged(work: &mut Work) {
     for _ in 0..work.cases {
         let random = &mut work.random;
-        let call = any_call(random);
+        let mut call = any_call(random);
+        make_framed(&mut call.whole);
         let mut line = any_line(random, &call);
         for _ in 0..random.pick(&[1, 1, 1, 2, 3]) {
             damage(random, &mut line);

@@ -9,6 +9,7 @@ pub mod calls;
 pub mod cases;
 pub mod damage;
 pub mod edits;
+pub mod forms;
 pub mod framed;
 pub mod frames;
 pub mod groups;

@@ -76,65 +76,58 @@ struct Made {
     last: State,
 }
 
-impl Run {
-    fn make(&self) -> Result<Made, String> {
-        let mut state = State {
-            buffer: self.buffer.clone(),
-            used: self.used,
-        };
-        let mut stages = vec![state.text().to_vec()];
-        let mut inverses = Vec::new();
-        for whole in &self.edits {
-            if edits::undoable(&state.call(whole))? != Ok(true) {
-                continue;
-            }
-            if let Some((next, inverse)) = state.step(whole)? {
-                stages.push(next.text().to_vec());
-                inverses.push(inverse);
-                state = next;
-            }
+impl Made {
+    fn from(opening: State) -> Self {
+        Self {
+            stages: vec![opening.text().to_vec()],
+            inverses: Vec::new(),
+            last: opening,
         }
-        Ok(Made {
-            stages,
-            inverses,
-            last: state,
-        })
     }
 
-    /// How many edits were made, taken back and made again.
-    pub fn compare(&self) -> Verdict {
-        let made = self.make()?;
-        let undone = take_back(&made, "undo")?;
-        let redone = take_back(&undone, "redo")?;
-        match redone.stages == made.stages {
-            true => Ok(0),
-            false => Err("redo does not end with the edited text".into()),
+    fn add(&mut self, (next, inverse): (State, Whole)) {
+        self.stages.push(next.text().to_vec());
+        self.inverses.push(inverse);
+        self.last = next;
+    }
+
+    /// The run of the inverses, last first: each is accepted and gives back the text at its stage.
+    fn taken_back(&self, what: &str) -> Result<Made, String> {
+        let mut back = Made::from(self.last.clone());
+        let earlier = self.stages.iter().rev().skip(1);
+        for (whole, text) in self.inverses.iter().rev().zip(earlier) {
+            let step = back.last.step(whole)?;
+            let step = step.ok_or_else(|| format!("{what} {whole} is refused"))?;
+            if step.0.text() != text {
+                let found = Shown(step.0.text());
+                return Err(format!("{what} {whole} gives {found}, not {}", Shown(text)));
+            }
+            back.add(step);
         }
+        Ok(back)
     }
 }
 
-/// The run of the inverses, last first, each accepted, with the same texts the other way round.
-fn take_back(made: &Made, what: &str) -> Result<Made, String> {
-    let mut state = made.last.clone();
-    let mut stages = vec![state.text().to_vec()];
-    let mut inverses = Vec::new();
-    let earlier = made.stages.iter().rev().skip(1);
-    for (whole, text) in made.inverses.iter().rev().zip(earlier) {
-        let step = state.step(whole)?;
-        let (next, inverse) = step.ok_or_else(|| format!("{what} {whole} is refused"))?;
-        if next.text() != text {
-            let found = Shown(next.text());
-            return Err(format!("{what} {whole} gives {found}, not {}", Shown(text)));
+impl Run {
+    fn make(&self) -> Result<Made, String> {
+        let mut made = Made::from(State {
+            buffer: self.buffer.clone(),
+            used: self.used,
+        });
+        for whole in &self.edits {
+            if edits::undoable(&made.last.call(whole))? == Ok(true)
+                && let Some(step) = made.last.step(whole)?
+            {
+                made.add(step);
+            }
         }
-        stages.push(next.text().to_vec());
-        inverses.push(inverse);
-        state = next;
+        Ok(made)
     }
-    Ok(Made {
-        stages,
-        inverses,
-        last: state,
-    })
+
+    pub fn compare(&self) -> Verdict {
+        self.make()?.taken_back("undo")?.taken_back("redo")?;
+        Ok(0)
+    }
 }
 
 impl fmt::Display for Run {

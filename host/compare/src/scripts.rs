@@ -7,8 +7,9 @@ use winchbarn::{DELETE_CHAR, DELETE_LINE, Edit, REPLACE, Sel, View};
 use crate::calls::{Call, Room, Whole};
 use crate::cases;
 use crate::damage::damage;
+use crate::forms::{self, Form, Piece};
 use crate::framed::make_framed;
-use crate::frames::{self, Form, Piece, hex};
+use crate::frames::{self, hex};
 use crate::guard::Guarded;
 use crate::law::{self, Answer, clamped, refusal, row_lengths};
 use crate::lend::same;
@@ -39,7 +40,7 @@ impl Script {
     }
 
     fn line(&mut self, line: &[u8]) {
-        let sound = match frames::form(line) {
+        let sound = match forms::form(line) {
             Some(Form::Text(piece)) => self.text_line(&piece),
             Some(Form::Mark(mark)) => self.mark_line(mark),
             Some(Form::Edit {
@@ -48,7 +49,7 @@ impl Script {
                 first,
                 second,
             }) => {
-                self.edit_line(frames::whole_of(edit, &pieces, first, second));
+                self.edit_line(forms::whole_of(edit, &pieces, first, second));
                 true
             }
             None => false,

@@ -106,80 +106,61 @@ impl Input for Encoding {
     }
 }
 
-/// Compares in just enough room, and in one element less where any is needed.
+/// Just enough room and one element less; much and none for what is refused whatever its room is.
+fn rooms(needed: Option<usize>, much: usize) -> Vec<usize> {
+    match needed {
+        Some(0) => vec![0],
+        Some(needed) => vec![needed, needed - 1],
+        None => vec![much, 0],
+    }
+}
+
 fn compare_decoding(tally: &mut Tally, bytes: Vec<u8>) {
-    let enough = str::from_utf8(&bytes).map_or(bytes.len(), |it| it.chars().count());
-    let mut decoding = Decoding {
-        bytes,
-        room: enough,
-    };
-    tally.note(&decoding, decoding.compare());
-    if enough > 0 {
-        decoding.room = enough - 1;
+    let needed = str::from_utf8(&bytes).map(|it| it.chars().count());
+    let mut decoding = Decoding { bytes, room: 0 };
+    for room in rooms(needed.ok(), decoding.bytes.len()) {
+        decoding.room = room;
         tally.note(&decoding, decoding.compare());
     }
 }
 
 fn compare_encoding(tally: &mut Tally, values: Vec<u32>) {
-    let enough = encoded(&values).map_or(values.len(), |it| it.len());
-    let mut encoding = Encoding {
-        values,
-        room: enough,
-    };
-    tally.note(&encoding, encoding.compare());
-    if enough > 0 {
-        encoding.room = enough - 1;
+    let needed = encoded(&values).map(|it| it.len());
+    let mut encoding = Encoding { values, room: 0 };
+    for room in rooms(needed.ok(), 4 * encoding.values.len()) {
+        encoding.room = room;
         tally.note(&encoding, encoding.compare());
+    }
+}
+
+/// Reads every sequence that begins with `front` and goes on with one byte of each set.
+fn compare_each(tally: &mut Tally, front: &[u8], sets: &[&[u8]]) {
+    let Some((set, behind)) = sets.split_first() else {
+        return compare_decoding(tally, front.to_vec());
+    };
+    for byte in *set {
+        compare_each(tally, &[front, &[*byte]].concat(), behind);
     }
 }
 
 /// All sequences of one and two bytes, those of three behind some or all leads, those of four at the ranges' ends.
 pub fn sequences(work: &mut Work) {
-    let leads: &[u8] = match work.extent {
-        Extent::Tiny => &[],
-        Extent::Quick => &[0x41, 0x80, 0xc2, 0xe0, 0xe1, 0xed, 0xef, 0xf0],
-        Extent::Long => &EVERY_BYTE,
+    let every: Vec<u8> = (0..=u8::MAX).collect();
+    let (of_two, of_three): (&[u8], &[u8]) = match work.extent {
+        Extent::Tiny => (&[0x41, 0xc2, 0xed], &[]),
+        Extent::Quick => (&every, &[0x41, 0x80, 0xc2, 0xe0, 0xe1, 0xed, 0xef, 0xf0]),
+        Extent::Long => (&every, &every),
     };
+    let of_four = [0xe1, 0xef, 0xf0, 0xf1, 0xf3, 0xf4, 0xf5, 0xf8];
     let tally = &mut work.tally;
-    for a in EVERY_BYTE {
-        compare_decoding(tally, vec![a]);
-        if work.extent == Extent::Tiny && ![0x41, 0xc2, 0xed].contains(&a) {
-            continue;
-        }
-        for b in EVERY_BYTE {
-            compare_decoding(tally, vec![a, b]);
-        }
-    }
-    for a in leads {
-        for b in EVERY_BYTE {
-            for c in EVERY_BYTE {
-                compare_decoding(tally, vec![*a, b, c]);
-            }
-        }
-    }
-    for a in [0xe1, 0xef, 0xf0, 0xf1, 0xf3, 0xf4, 0xf5, 0xf8] {
-        for b in ENDS {
-            for c in ENDS {
-                for d in ENDS {
-                    compare_decoding(tally, vec![a, b, c, d]);
-                }
-            }
-        }
-    }
+    compare_each(tally, &[], &[&every]);
+    compare_each(tally, &[], &[of_two, &every]);
+    compare_each(tally, &[], &[of_three, &every, &every]);
+    compare_each(tally, &[], &[&of_four, &ENDS, &ENDS, &ENDS]);
 }
 
 /// Where the ranges of RFC 3629's second bytes and tails begin and end.
 const ENDS: [u8; 10] = [0x00, 0x7f, 0x80, 0x8f, 0x90, 0x9f, 0xa0, 0xbf, 0xc0, 0xff];
-
-const EVERY_BYTE: [u8; 256] = {
-    let mut bytes = [0; 256];
-    let mut at = 0;
-    while at < 256 {
-        bytes[at] = at as u8;
-        at += 1;
-    }
-    bytes
-};
 
 /// Every value up to and past the last scalar, written alone; every scalar's bytes read alone.
 pub fn scalars(work: &mut Work) {

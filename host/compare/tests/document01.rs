@@ -2,7 +2,8 @@
 
 use compare::bridge::{self, Done};
 use compare::calls::{Call, Room, Whole, at, chars};
-use compare::frames::{self, edit_line, hex, read_edit, text_frame};
+use compare::forms::{Form, form, read_edit};
+use compare::frames::{edit_line, hex, text_frame};
 use compare::law;
 use compare::random::Random;
 use compare::sample;
@@ -278,14 +279,12 @@ fn edits_are_read_back_from_their_lines() {
         let kind = random.between(1, 10) as u32;
         let mut edit = cases::whole(&mut random, kind, &law::row_lengths(&text));
         framed::make_framed(&mut edit);
-        if [DELETE_LINE, JOIN_LINES, JOIN_LINES_SPACED, SPLIT_LINES].contains(&kind) {
+        if [JOIN_LINES, JOIN_LINES_SPACED, SPLIT_LINES].contains(&kind) {
             edit.edit.start.col = 0;
         }
         assert_eq!(read_edit(&edit_line(&edit).unwrap()), Ok(edit));
         let line = hex(&text_frame(&text));
-        assert!(
-            matches!(frames::form(&line), Some(frames::Form::Text(it)) if it.decoded() == Ok(text))
-        );
+        assert!(matches!(form(&line), Some(Form::Text(it)) if it.decoded() == Ok(text)));
     }
 }
 

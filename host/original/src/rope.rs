@@ -24,8 +24,7 @@ struct Start {
 pub struct RopeSlice<'a>(&'a str);
 
 impl Rope {
-    #[allow(clippy::should_implement_trait)]
-    pub fn from_str(text: &str) -> Self {
+    pub fn new(text: &str) -> Self {
         let mut rope = Self {
             text: text.to_owned(),
             rows: vec![Start::default()],

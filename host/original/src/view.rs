@@ -17,10 +17,13 @@ pub struct View {
 
 impl View {
     /// A view of this text, its cursor at the start and its counter 0.
-    #[allow(clippy::should_implement_trait)]
+    #[expect(
+        clippy::should_implement_trait,
+        reason = "the original's View has this name"
+    )]
     pub fn from_str(text: &str) -> Self {
         let buffer = Buffer {
-            text: Rope::from_str(text),
+            text: Rope::new(text),
             dirty_gen: 0,
         };
         Self {
@@ -54,7 +57,7 @@ impl View {
         self.cursor = self.clamp_position(pos);
     }
 
-    // From buffer.rs.
+    // This and the names of the others are from buffer.rs.
     pub fn clamp_position(&self, pos: Position) -> Position {
         let c = self.content.lock().unwrap();
         let n = c.text.len_lines();

@@ -48,7 +48,7 @@ fn insertions_leave_the_text_with_its_rows() {
     for text in TEXTS {
         for put_in in TEXTS {
             for at in 0..=text.chars().count() {
-                let mut rope = Rope::from_str(text);
+                let mut rope = Rope::new(text);
                 rope.insert(at, put_in);
                 let (front, back) = text.split_at(char_to_byte(text, at));
                 check(&rope, &format!("{front}{put_in}{back}"));
@@ -63,7 +63,7 @@ fn removals_leave_the_text_with_its_rows() {
         let count = text.chars().count();
         for start in 0..=count {
             for end in start..=count {
-                let mut rope = Rope::from_str(text);
+                let mut rope = Rope::new(text);
                 rope.remove(start..end);
                 let (front, back) = (
                     &text[..char_to_byte(text, start)],
