@@ -79,9 +79,11 @@ pub fn texts(bounds: &Bounds) -> Vec<Vec<u32>> {
 pub fn places(text: &[u32]) -> Vec<Position> {
     let lengths = row_lengths(text);
     let longest = *lengths.iter().max().expect("a row") as u32;
-    rows(text)
-        .flat_map(|row| (0..=longest + 1).map(move |col| at(row, col)))
-        .collect()
+    let mut places = Vec::new();
+    for row in rows(text) {
+        places.extend((0..=longest + 1).map(|col| at(row, col)));
+    }
+    places
 }
 
 fn rows(text: &[u32]) -> std::ops::RangeInclusive<u32> {
