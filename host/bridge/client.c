@@ -39,8 +39,9 @@ static void take_turns(void) {
 }
 
 static void start_server(void) {
-    char name[] = "/tmp/winchbarn-bridge-XXXXXX";
-    int fd = mkstemp(name), there[2], back[2];
+    int fd = memfd_create("winchbarn", 0), there[2], back[2];
+    char word[16];
+    snprintf(word, sizeof word, "%d", fd);
     if (fd < 0 || ftruncate(fd, FILE_SIZE) || pipe2(there, O_CLOEXEC) || pipe2(back, O_CLOEXEC)) {
         fail("no file or no pipe");
     }
@@ -51,7 +52,7 @@ static void start_server(void) {
     if (fork() == 0) {
         dup2(there[0], STDIN_FILENO);
         dup2(back[1], STDOUT_FILENO);
-        execl(EMULATOR, EMULATOR, LOADER, "--library-path", LIBRARIES, SERVER, name, (char *)NULL);
+        execl(EMULATOR, EMULATOR, LOADER, "--library-path", LIBRARIES, SERVER, word, (char *)NULL);
         _exit(127);
     }
     close(there[0]);
@@ -61,7 +62,6 @@ static void start_server(void) {
     from_server = back[0];
     ((call *)file)->function = ROW_SPAN;
     take_turns();
-    unlink(name);
 }
 
 static call *begin(uint32_t function) {
