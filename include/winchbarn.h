@@ -16,7 +16,7 @@
  *    6  shifts only: ends of a delete or a replace in the wrong order
  *    7  SPLIT_LINES only: a column with its flag set, past the end of the row at that step
  *    8  no room: the text would be longer than its buffer or 16,384, or the output than its slice
- *    9  no record: the inverse is longer than the slices lent for it, or the merged selections than theirs may be
+ *    9  no record: the inverse is longer than the slices lent for it; the output of a merge is shorter than its input
  *   10  a malformed frame; a kind that is none
  *
  * A text is its buffer's first `used` elements: Unicode scalars but U+000B, U+000C, U+000D, U+0085, U+2028 and U+2029. Its rows end at
