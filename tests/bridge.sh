@@ -3,9 +3,9 @@
 # server that holds the archive and runs under the toolchain's emulator (host/bridge). It says what the core answers, and nothing about speed.
 set -euo pipefail
 cd "$(dirname "${BASH_SOURCE[0]}")/.."
-kit=$(dirname "$(dirname "$(readlink -f "$(command -v rt)")")")
-libraries=$kit/toolchain/lib
-emulator=$kit/on/$(uname -m)/toolchain/bin/qemu-x86_64
+source tests/emulator.sh
+libraries=$tools/lib
+emulator=$tools/bin/qemu-x86_64
 loader=$libraries/ld-linux-x86-64.so.2
 out=$PWD/target/bridge
 mkdir -p "$out"

@@ -2,7 +2,7 @@
 # Runs scriptrun on scripts: each of examples/ against its stored output, and some that are too long to store. Its last line says how many passed.
 set -euo pipefail
 cd "$(dirname "${BASH_SOURCE[0]}")/.."
-run=target/bin/scriptrun
+run="tests/run.sh scriptrun"
 passed=0
 
 expect() { # NAME, EXPECTED; what was printed comes on standard input
