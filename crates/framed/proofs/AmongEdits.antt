@@ -15,17 +15,16 @@ use Rattle.frame.specs.Format.{Frame}
 use Rattle.frame.specs.Forms.{Form, malformed, text, mark, edit, headOf}
 use Rattle.frame.specs.Reads.{readForm}
 use Rattle.place.specs.Places.{placed}
+use Rattle.place.proofs.InPlace.{in-place}
 use Rattle.reader.proofs.EditLines.{Held}
 use Rattle.framed.specs.Calls.{frameApplied, amongEdits}
 
 -- ---- an edit is as it is, and nothing else is in its place
 
 edit-among : (g : Form) (e : Edit) → headOf (placed amongEdits [] g) ≡ asHead.Edit e → (headOf g ≡ asHead.Edit e) × (placed amongEdits [] g ≡ g)
-unfolding placed headOf
-edit-among malformed e h = let z : _≡_ {A = ℕ} 0 1 = cc in absurd (omega arith)
-edit-among (text s) e h = let z : _≡_ {A = ℕ} 0 1 = cc in absurd (omega arith)
-edit-among (mark m) e h = let z : _≡_ {A = ℕ} 0 1 = cc in absurd (omega arith)
-edit-among (edit d at ks f s) e h = (h, refl)
+edit-among g e h =
+    let k = in-place amongEdits [] g (asHead.Edit e) h (λ m. let z : _≡_ {A = ℕ} 0 1 = cc in omega arith) in
+    (ap headOf (sym k) ∙ h, k)
 
 -- what has no edit's head is refused by 10
 other-among : (g : Form) → ((e : Edit) → headOf (placed amongEdits [] g) ≡ asHead.Edit e → ⊥) → readForm (placed amongEdits [] g) ≡ refused 10 0
