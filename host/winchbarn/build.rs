@@ -7,12 +7,15 @@ use std::process::exit;
 const ARCHIVE: &str = "libwinchbarn.a";
 
 fn library_dir() -> PathBuf {
-    match env::var_os("WINCHBARN_LIB_DIR") {
-        Some(dir) => dir.into(),
-        None => {
-            PathBuf::from(env::var_os("CARGO_MANIFEST_DIR").unwrap()).join("../../target/staticlib")
-        }
+    if let Some(dir) = env::var_os("WINCHBARN_LIB_DIR") {
+        return dir.into();
     }
+    let part = match env::var("CARGO_CFG_TARGET_ARCH").as_deref() {
+        Ok("x86_64") => "staticlib",
+        _ => "native",
+    };
+    let here = PathBuf::from(env::var_os("CARGO_MANIFEST_DIR").unwrap());
+    here.join("../../target").join(part)
 }
 
 fn main() {
@@ -22,7 +25,7 @@ fn main() {
     println!("cargo:rerun-if-changed={}", archive.display());
     if !archive.is_file() {
         eprintln!(
-            "{} is not there: run `rt staticlib winchbarn` in the repository's root",
+            "{} is not there: run `tests/archive.sh` in the repository's root",
             archive.display()
         );
         exit(1);
