@@ -2,9 +2,13 @@
 # Calls the archive from C (tests/c/calls.c) and reads the header as C++. Its last line says how many checks passed.
 set -euo pipefail
 cd "$(dirname "${BASH_SOURCE[0]}")/.."
-archive=${WINCHBARN_LIB_DIR:-target/staticlib}/libwinchbarn.a
+part=native
+if [ "$(uname -m)" = x86_64 ]; then
+    part=staticlib
+fi
+archive=${WINCHBARN_LIB_DIR:-target/$part}/libwinchbarn.a
 if ! [ -f "$archive" ]; then
-    echo "$archive is not there: run \`rt staticlib winchbarn\` in the repository's root" >&2
+    echo "$archive is not there: run \`tests/archive.sh\` in the repository's root" >&2
     exit 1
 fi
 warnings=(-Wall -Wextra -Werror -pedantic)
