@@ -8,7 +8,7 @@ use crate::cases::{self, CHARACTERS, Whole};
 use crate::plain::{self, Plain, all_admissible};
 use crate::sides::{original_edit, original_position, plain_edit, string};
 use crate::timing::{Side, timed};
-use crate::{report, script};
+use crate::{report, script, table};
 
 const BUFFER: usize = 16_384;
 const SELECTIONS: u32 = 1_024;
@@ -95,8 +95,27 @@ fn see_that_edits_agree(opening: &[u32], whole: &Whole) {
     assert_eq!(view.cursor(), original_position(applied.view.cursor));
 }
 
+/// The look at each character that the core takes before anything else. Its call for clamping takes one and little more.
+pub fn scan() {
+    let core = Core::holding(&cases::mixed_text(CHARACTERS));
+    let text = &core.text[..core.view.used];
+    let origin = Position::default();
+    let by_core = || clamp_position(black_box(&core.text), core.view.used, origin);
+    let by_rust = || all_admissible(black_box(text));
+    assert_eq!((by_core(), by_rust()), (Ok(origin), true));
+    table("scan", &["plain"]);
+    report(
+        &format!("{CHARACTERS} characters"),
+        vec![Side::new(|| timed(by_core)), Side::new(|| timed(by_rust))],
+    );
+}
+
 pub fn edits() {
     let opening = cases::mixed_text(CHARACTERS);
+    table(
+        "edit",
+        &["original, stand-in rope", "plain", "plain after scan"],
+    );
     for (name, whole) in cases::edits(&opening) {
         see_that_edits_agree(&opening, &whole);
         report(name, edit_sides(&opening, &whole));
@@ -109,30 +128,29 @@ fn edit_sides<'a>(opening: &'a [u32], whole: &'a Whole) -> Vec<Side<'a>> {
     let edit = plain_edit(whole);
     let for_original = original_edit(edit.clone());
     vec![
-        Side::new("winchbarn", move || {
+        Side::new(move || {
             core.text[..opening.len()].copy_from_slice(opening);
             timed(|| core.apply(black_box(whole)))
         }),
-        Side::new("original, stand-in rope", move || {
+        Side::new(move || {
             let mut view = original::View::from_str(&text);
             let edit = for_original.clone();
             timed(|| view.apply_edit(black_box(edit)))
         }),
-        plain_side("plain", opening, edit.clone(), |_| true),
-        plain_side("plain after scan", opening, edit, |text| {
+        plain_side(opening, edit.clone(), |_| true),
+        plain_side(opening, edit, |text| {
             all_admissible(text) & all_admissible(black_box(&whole.payload))
         }),
     ]
 }
 
 fn plain_side<'a>(
-    name: &'static str,
     opening: &'a [u32],
     edit: plain::Edit,
     judged: impl Fn(&[u32]) -> bool + 'a,
 ) -> Side<'a> {
     let mut plain = plain_holding(opening);
-    Side::new(name, move || {
+    Side::new(move || {
         plain.text.clear();
         plain.text.extend_from_slice(opening);
         timed(|| judged(black_box(&plain.text)).then(|| plain.apply(black_box(&edit))))
@@ -143,6 +161,10 @@ pub fn shifts() {
     let opening = cases::mixed_text(CHARACTERS);
     let core = Core::holding(&opening);
     let view = original::View::from_str(&string(&opening));
+    table(
+        "shift over",
+        &["original, stand-in rope", "original after scan"],
+    );
     for (name, whole) in cases::edits(&opening) {
         shift_compared(name, &core, &view, &whole);
     }
@@ -176,13 +198,11 @@ fn shift_compared(name: &str, core: &Core, view: &original::View, whole: &Whole)
     let text = &core.text[..core.view.used];
     let scanned = || all_admissible(black_box(text)) & all_admissible(black_box(&whole.payload));
     report(
-        &format!("shift over {name}"),
+        name,
         vec![
-            Side::new("winchbarn", || timed(by_core)),
-            Side::new("original, stand-in rope", || timed(by_original)),
-            Side::new("original after scan", || {
-                timed(|| scanned().then(by_original))
-            }),
+            Side::new(|| timed(by_core)),
+            Side::new(|| timed(by_original)),
+            Side::new(|| timed(|| scanned().then(by_original))),
         ],
     );
 }
@@ -190,14 +210,19 @@ fn shift_compared(name: &str, core: &Core, view: &original::View, whole: &Whole)
 pub fn utf8() {
     let ascii = (0..CHARACTERS as u32).map(|i| 0x20 + i % 95).collect();
     let kana = (0..CHARACTERS as u32).map(|i| 0x3041 + i % 86).collect();
-    for (name, scalars) in [
+    let texts = [
         ("ASCII", ascii),
         ("kana", kana),
         ("mixed", cases::mixed_text(CHARACTERS)),
-    ] {
-        let bytes = string(&scalars).into_bytes();
-        decoding(name, &bytes, &scalars);
-        encoding(name, &bytes, &scalars);
+    ];
+    let texts = texts.map(|(name, scalars)| (name, string(&scalars).into_bytes(), scalars));
+    table("decode", &["str::from_utf8, chars"]);
+    for (name, bytes, scalars) in &texts {
+        decoding(name, bytes, scalars);
+    }
+    table("encode", &["char::from_u32, String::push"]);
+    for (name, bytes, scalars) in &texts {
+        encoding(name, bytes, scalars);
     }
 }
 
@@ -214,10 +239,10 @@ fn decoding(name: &str, bytes: &[u8], scalars: &[u32]) {
     by_rust(&mut list);
     assert_eq!((out.as_slice(), list.as_slice()), (scalars, scalars));
     report(
-        &format!("decode {name}"),
+        name,
         vec![
-            Side::new("winchbarn", || timed(|| by_core(&mut out))),
-            Side::new("str::from_utf8, chars", || timed(|| by_rust(&mut list))),
+            Side::new(|| timed(|| by_core(&mut out))),
+            Side::new(|| timed(|| by_rust(&mut list))),
         ],
     );
 }
@@ -236,12 +261,10 @@ fn encoding(name: &str, bytes: &[u8], scalars: &[u32]) {
     by_rust(&mut text);
     assert_eq!((out.as_slice(), text.as_bytes()), (bytes, bytes));
     report(
-        &format!("encode {name}"),
+        name,
         vec![
-            Side::new("winchbarn", || timed(|| by_core(&mut out))),
-            Side::new("char::from_u32, String::push", || {
-                timed(|| by_rust(&mut text))
-            }),
+            Side::new(|| timed(|| by_core(&mut out))),
+            Side::new(|| timed(|| by_rust(&mut text))),
         ],
     );
 }
@@ -266,6 +289,7 @@ pub fn merging() {
     let sorted = |i| selection(i, 10, 5);
     let overlapping = |i| selection(5, scattered(i) % 50, 60);
     let numbers = |make: fn(u32) -> [u32; 4]| (0..SELECTIONS).flat_map(make).collect();
+    table("merge", &["original"]);
     merge_compared("random", numbers(random));
     merge_compared("sorted", numbers(sorted));
     merge_compared("all overlapping", numbers(overlapping));
@@ -289,12 +313,10 @@ fn merge_compared(name: &str, numbers: Vec<u32>) {
         original::merge_overlapping(sels.clone())
     );
     report(
-        &format!("merge {SELECTIONS}, {name}"),
+        &format!("{SELECTIONS}, {name}"),
         vec![
-            Side::new("winchbarn", || {
-                timed(|| merge_overlapping(black_box(&numbers), &mut out))
-            }),
-            Side::new("original", || {
+            Side::new(|| timed(|| merge_overlapping(black_box(&numbers), &mut out))),
+            Side::new(|| {
                 let sels = sels.clone();
                 timed(|| original::merge_overlapping(black_box(sels)))
             }),
@@ -310,13 +332,12 @@ pub fn scripts() {
     let mut out = vec![0; printed.len()];
     assert_eq!(run_script(script, &mut out), Ok(printed.len()));
     assert_eq!(out, printed);
+    table("script", &["plain"]);
     report(
-        &format!("script of {SCRIPT_EDITS} edits"),
+        &format!("{SCRIPT_EDITS} edits"),
         vec![
-            Side::new("winchbarn", || {
-                timed(|| run_script(black_box(script), &mut out))
-            }),
-            Side::new("plain", || timed(|| script::run(black_box(script)))),
+            Side::new(|| timed(|| run_script(black_box(script), &mut out))),
+            Side::new(|| timed(|| script::run(black_box(script)))),
         ],
     );
 }

@@ -6,17 +6,11 @@ use std::time::{Duration, Instant};
 const FEWEST: usize = 21;
 
 /// One side: each call readies what the work needs, and answers how long the work alone took.
-pub struct Side<'a> {
-    pub name: &'static str,
-    run: Box<dyn FnMut() -> Duration + 'a>,
-}
+pub struct Side<'a>(Box<dyn FnMut() -> Duration + 'a>);
 
 impl<'a> Side<'a> {
-    pub fn new(name: &'static str, run: impl FnMut() -> Duration + 'a) -> Self {
-        Side {
-            name,
-            run: Box::new(run),
-        }
+    pub fn new(run: impl FnMut() -> Duration + 'a) -> Self {
+        Side(Box::new(run))
     }
 }
 
@@ -35,7 +29,7 @@ pub fn medians(sides: &mut [Side], allowed: Duration) -> (Vec<Duration>, usize) 
     let start = Instant::now();
     while times[0].len() < FEWEST || start.elapsed() < allowed {
         for (side, times) in sides.iter_mut().zip(&mut times) {
-            times.push((side.run)());
+            times.push((side.0)());
         }
     }
     let turns = times[0].len();
