@@ -287,11 +287,13 @@ pub fn merging() {
         )
     };
     let sorted = |i| selection(i, 10, 5);
+    let falling = |i| selection(SELECTIONS - i, 10, 5);
     let overlapping = |i| selection(5, scattered(i) % 50, 60);
     let numbers = |make: fn(u32) -> [u32; 4]| (0..SELECTIONS).flat_map(make).collect();
     table("merge", &["original"]);
     merge_compared("random", numbers(random));
     merge_compared("sorted", numbers(sorted));
+    merge_compared("falling", numbers(falling));
     merge_compared("all overlapping", numbers(overlapping));
 }
 
