@@ -34,7 +34,8 @@ use Rattle.plain.specs.declared.Said.{Said}
 use Rattle.plain.specs.declared.SelFound.{SelFound}
 use Rattle.plain.specs.Meanings.{item, meant, selections, paperMeant, paperSelection}
 use Rattle.plain.specs.Told.{toldCount, toldApplied, notFound, noSel, noCover, toldSpan, toldYes}
-use Rattle.winchbarn.specs.Calls.{counted, changed, toldInto, toldMerge, toldCall, ofKind, editCall, lineCall, undoableCall, toldShifted, shiftCall, toldSelShifted, selCall, spanCall}
+use Rattle.told.specs.Shifts.{toldShifted, toldSelShifted}
+use Rattle.winchbarn.specs.Calls.{counted, changed, toldInto, toldMerge, toldCall, ofKind, editCall, lineCall, undoableCall, shiftCall, selCall, spanCall}
 
 pub told-into : (r : Count) (a : Paper ℕ) (o : List ℕ) (w : Outcome) → r ≡ toldCount a → outcome a o ≡ w → counted r o ≡ toldInto w
 told-into r a o w e q = ap (λ (c : Count). counted c o) e ∙ ap toldInto q

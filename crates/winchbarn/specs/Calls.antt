@@ -13,7 +13,6 @@ use Rattle.edit.specs.Call as edits
 use Rattle.select.specs.declared.Sel.{Sel}
 use Rattle.select.specs.Selections.{rowSpan}
 use Rattle.merge.specs.Call as merges
-use Rattle.shift.specs.Answers.{Followed, to, dropped}
 use Rattle.shift.specs.Call.{positionShifted, selShifted}
 use Rattle.frame.specs.Format.{edit as editFrame}
 use Rattle.writer.specs.Calls.{writtenInto}
@@ -25,7 +24,8 @@ use Rattle.plain.specs.declared.Numbers.{Numbers}
 use Rattle.plain.specs.declared.Said.{Said}
 use Rattle.plain.specs.declared.SelFound.{SelFound}
 use Rattle.plain.specs.Meanings.{item, meant, selections}
-use Rattle.plain.specs.Told.{toldCount, toldApplied, foundAt, notFound, foundSel, noSel, noCover, toldSpan, toldYes}
+use Rattle.plain.specs.Told.{toldCount, toldApplied, noCover, toldSpan, toldYes}
+use Rattle.told.specs.Shifts.{toldShifted, toldSelShifted}
 
 -- ---- how much was written, and the slice at exit
 
@@ -74,19 +74,8 @@ lineCall n x f s out = toldInto (ofKind (meant n) (outcome (refused 10 0) out) (
 abbrev pub undoableCall : View → Numbers → List ℕ → List ℕ → List ℕ → List ℕ → Said
 undoableCall v n b x f s = toldYes (ofKind (meant n) (refused 10 0) (λ e. undoable v e (lent b x f s [] [] [])))
 
--- "SplitLines answers Dropped, which is no refusal."
-abbrev pub toldShifted : Paper (Followed Position) → Found
-toldShifted (done (to p)) = foundAt p
-toldShifted (done dropped) = notFound 0
-toldShifted (refused n k) = notFound n
-
 abbrev pub shiftCall : List ℕ → View → Numbers → List ℕ → List ℕ → List ℕ → Position → Found
 shiftCall b v n x f s p = toldShifted (ofKind (meant n) (refused 10 0) (λ e. positionShifted b (v .used) e x f s p))
-
-abbrev pub toldSelShifted : Paper (Followed Sel) → SelFound
-toldSelShifted (done (to l)) = foundSel l
-toldSelShifted (done dropped) = noSel 0
-toldSelShifted (refused n k) = noSel n
 
 abbrev pub selCall : List ℕ → View → Numbers → List ℕ → List ℕ → List ℕ → Sel → SelFound
 selCall b v n x f s l = toldSelShifted (ofKind (meant n) (refused 10 0) (λ e. selShifted b (v .used) e x f s l))

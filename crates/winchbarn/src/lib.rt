@@ -1,12 +1,4 @@
 // The core's functions for C, as include/winchbarn.h declares them.
-mod answers;
-
-use answers::told_merged;
-use answers::told_ran;
-use answers::told_sel_shifted;
-use answers::told_shifted;
-use answers::told_undoable;
-use answers::told_written;
 use apply::apply_edit;
 use edit::Refusal;
 use edit::View;
@@ -42,6 +34,12 @@ use text::Position;
 use text::Row;
 use text::box_fit;
 use text::clamp_position;
+use told::told_merged;
+use told::told_ran;
+use told::told_sel_shifted;
+use told::told_shifted;
+use told::told_undoable;
+use told::told_written;
 use utf8::decode;
 use utf8::encode;
 use view::undoable;

@@ -1,6 +1,6 @@
 use borrow.Author.Needs.{needs}
-use Rattle.winchbarn.proofs.answers.told_undoable.Statement.{statement}
-use Rattle.winchbarn.proofs.answers.told_undoable.Tie as tie
+use Rattle.told.proofs.told_undoable.Statement.{statement}
+use Rattle.told.proofs.told_undoable.Tie as tie
 
 enum-told : tie.Need-enum-told
 enum-told c = search needs

@@ -23,7 +23,7 @@ ghost use Rattle.view.specs.Answers.{paperUndoable};
 ghost use Rattle.writer.specs.Calls.{paperWritten};
 ghost use Rattle.script.specs.Calls.{paperRan};
 ghost use Rattle.plain.specs.Told.{toldCount, toldYes};
-ghost use Rattle.winchbarn.specs.Calls.{toldShifted, toldSelShifted};
+ghost use Rattle.told.specs.Shifts.{toldShifted, toldSelShifted};
 
 pub fn told_ran(ran: Ran) -> Count
     ensures { λ r. ⌜ r ≡ toldCount (paperRan ran) ⌝ }

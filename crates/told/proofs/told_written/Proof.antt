@@ -1,6 +1,6 @@
 use borrow.Author.Needs.{needs}
-use Rattle.winchbarn.proofs.answers.told_written.Statement.{statement}
-use Rattle.winchbarn.proofs.answers.told_written.Tie as tie
+use Rattle.told.proofs.told_written.Statement.{statement}
+use Rattle.told.proofs.told_written.Tie as tie
 
 enum-known-written : tie.Need-enum-known-written
 enum-known-written c = search needs

@@ -1,6 +1,6 @@
 use borrow.Author.Needs.{needs}
-use Rattle.winchbarn.proofs.answers.told_ran.Statement.{statement}
-use Rattle.winchbarn.proofs.answers.told_ran.Tie as tie
+use Rattle.told.proofs.told_ran.Statement.{statement}
+use Rattle.told.proofs.told_ran.Tie as tie
 
 enum-known-ran : tie.Need-enum-known-ran
 enum-known-ran c = search needs

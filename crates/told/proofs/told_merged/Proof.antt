@@ -1,6 +1,6 @@
 use borrow.Author.Needs.{needs}
-use Rattle.winchbarn.proofs.answers.told_merged.Statement.{statement}
-use Rattle.winchbarn.proofs.answers.told_merged.Tie as tie
+use Rattle.told.proofs.told_merged.Statement.{statement}
+use Rattle.told.proofs.told_merged.Tie as tie
 
 enum-known-merged : tie.Need-enum-known-merged
 enum-known-merged c = search needs
