@@ -1,7 +1,6 @@
 use Rattle.text.specs.Text.{isLF}
 use Rattle.text.proofs.Laws.{start-le}
 use Rattle.text.proofs.Walks.{run-within, run-span}
-use native.Mathlib.Omega.{arith}
 use borrow.Author.Needs.{needs}
 use Rattle.text.proofs.rows.row_from.Statement.{statement}
 use Rattle.text.proofs.rows.row_from.Tie as tie
