@@ -5,7 +5,7 @@ use Prim.Native.Nat.{ℕ}
 use Rattle.promise.specs.Paper.{Paper, done, refused}
 use Rattle.text.specs.declared.Position.{Position}
 use Rattle.text.specs.Rows.{at}
-use Rattle.text.specs.Answers.{Fit, allFit, leaves}
+use Rattle.fit.specs.Calls.{Fit, allFit, leaves}
 use Rattle.edit.specs.declared.View.{View}
 use Rattle.edit.specs.declared.Applied.{Applied}
 use Rattle.select.specs.declared.Sel.{Sel}

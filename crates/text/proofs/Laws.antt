@@ -6,7 +6,7 @@ use Prim.Native.Nat.{ℕ, zero, suc, _≤_, _+_, _-_, _<_, min}
 use native.Mathlib.Omega.{arith}
 use lib.ListN.{length, take, drop, take-append-drop}
 use Rattle.text.specs.Rows.{Line, line, onto, lines, unlines, rowCount, rowLen, rowStart, lastRow, clamp, offset, endOf, at, _⊕_}
-use native.Mathlib.Nat.{zero-add, add-assoc}
+use native.Mathlib.Nat.{zero-add, add-assoc, sub-zero, suc-sub-suc}
 use borrow.Author.Tests.{ne-eqb}
 use Rattle.text.specs.Theorems.{weld}
 use Rattle.text.specs.declared.Position.{Position}
@@ -325,6 +325,28 @@ module _ {A : Type 0} (lf : A → Bool) where
       go : (b : Bool) → lf x ≡ b → rowStart lf t r ≤ length t → rowStart lf t (suc r) ≤ length t → rowStart lf (x ∷ t) (suc r) ≤ suc (length t)
       go true e h k = rw (start-lf lf x t r e) (omega arith)
       go false e h k = rw (start-other lf x t r e) (omega arith)
+
+  -- only a row of the text starts before its end
+  pub start-before : (t : List A) (r : ℕ) → rowStart lf t r < length t → r ≤ lastRow lf t
+  start-before t zero h = omega arith
+  start-before [] (suc r) h = absurd (omega (arith, start-none lf (suc r)))
+  start-before (x ∷ t) (suc r) h = go (lf x) refl (start-before t r) (start-before t (suc r))
+    where
+      go : (b : Bool) → lf x ≡ b → (rowStart lf t r < length t → r ≤ lastRow lf t) → (rowStart lf t (suc r) < length t → suc r ≤ lastRow lf t) → suc r ≤ lastRow lf (x ∷ t)
+      go true e k l = omega (arith, last-lf x t e, k (omega (arith, start-lf lf x t r e)))
+      go false e k l = omega (arith, last-other x t e, l (omega (arith, start-other lf x t r e)))
+
+  -- a row that starts behind the first of two texts
+  pub start-behind : (s u : List A) (r : ℕ) → lastRow lf s < r → rowStart lf (s ++ u) r ≡ length s + rowStart lf u (r - lastRow lf s)
+  start-behind [] u r h = rw (last-none, sub-zero, zero-add)
+  start-behind (x ∷ s) u zero h = absurd (omega arith)
+  start-behind (x ∷ s) u (suc r) h = go (lf x) refl (start-behind s u r) (start-behind s u (suc r))
+    where
+      go : (b : Bool) → lf x ≡ b → (lastRow lf s < r → rowStart lf (s ++ u) r ≡ length s + rowStart lf u (r - lastRow lf s))
+          → (lastRow lf s < suc r → rowStart lf (s ++ u) (suc r) ≡ length s + rowStart lf u (suc r - lastRow lf s))
+          → rowStart lf (x ∷ (s ++ u)) (suc r) ≡ suc (length s) + rowStart lf u (suc r - lastRow lf (x ∷ s))
+      go true e k l = rw (start-lf lf x (s ++ u) r e, last-lf x s e, suc-sub-suc) (omega (arith, k (omega (arith, last-lf x s e))))
+      go false e k l = rw (start-other lf x (s ++ u) r e, last-other x s e) (omega (arith, l (omega (arith, last-other x s e))))
 
   -- a row stands at its start: what follows there, up to an LF, is it
   pub row-at : (t : List A) (r : ℕ) → rowLen lf (drop (rowStart lf t r) t) 0 ≡ rowLen lf t r

@@ -9,10 +9,8 @@ use Rattle.promise.proofs.Settled.{settled}
 use Rattle.text.specs.declared.Position.{Position}
 use Rattle.text.specs.declared.Clamped.{Clamped}
 use Rattle.text.specs.declared.Clamped.the-variants as clamped
-use Rattle.text.specs.declared.BoxFit.{BoxFit}
-use Rattle.text.specs.declared.BoxFit.the-variants as boxFit
 use Rattle.text.specs.Rows.{rowCount}
-use Rattle.text.specs.Answers.{paperClamped, Fit, allFit, leaves, paperBoxFit}
+use Rattle.text.specs.Answers.{paperClamped}
 use Rattle.text.specs.Theorems.{RowsKeep, countLF, RowsAreLFs, EndsAdd, AddingGroups, EndTake, OffsetEnd, RowsWeld, Renews, RenewsTwice, Settled}
 use Rattle.text.proofs.Renewed.{renewed-text, renewed-length, renewed-twice}
 use Rattle.text.proofs.Laws.{lines-append, count-lf, count-other, count-none, unlines-lines, add-positions, end-append, offset-end, end-take}
@@ -59,16 +57,5 @@ unfolding clampedBack
 clamped-back (clamped.At p) = refl
 clamped-back clamped.BadText = refl
 
-fitBack : Paper Fit → BoxFit
-fitBack (done allFit) = boxFit.AllFit
-fitBack (done (leaves p)) = boxFit.Leaves p
-fitBack (refused n k) = boxFit.BadText
-
-fit-back : (x : BoxFit) → fitBack (paperBoxFit x) ≡ x
-unfolding fitBack
-fit-back boxFit.AllFit = refl
-fit-back (boxFit.Leaves p) = refl
-fit-back boxFit.BadText = refl
-
 pub promises-settle : Settled
-promises-settle = record { clamp-position = settled clampedBack clamped-back; box-fit = settled fitBack fit-back }
+promises-settle = record { clamp-position = settled clampedBack clamped-back }

@@ -8,7 +8,7 @@ use Rattle.promise.specs.Settled.{Settles}
 use Rattle.text.specs.declared.Position.{Position}
 use Rattle.text.specs.Rows.{Line, line, lines, unlines, _⊕_, rowCount, clamp, offset, endOf}
 use Rattle.text.specs.Text.{renewed}
-use Rattle.text.specs.Answers.{paperClamped, paperBoxFit}
+use Rattle.text.specs.Answers.{paperClamped}
 
 -- Rows lose no element and make none.
 abbrev pub RowsKeep : Type 1
@@ -59,7 +59,6 @@ RenewsTwice =
     (buffer : List ℕ) (used : ℕ) (u w : List ℕ) → length u ≤ max used (length w) → used ≤ length buffer → length w ≤ length buffer
     → renewed (renewed buffer used u) (length u) w ≡ renewed buffer used w
 
--- Each public promise settles its answer. (Those of the other functions are equations for the answer itself.)
+-- The public promise settles its answer. (Those of the other functions are equations for the answer itself.)
 pub record Settled : Type 0 where
   pub clamp-position : Settles paperClamped
-  pub box-fit : Settles paperBoxFit

@@ -1,12 +1,10 @@
 // Texts and places in them: rows, columns, character offsets, and which texts are admitted.
 mod admit;
-mod fit;
 mod rows;
 
 pub use admit::TEXT_LIMIT;
 pub use admit::all_admissible;
 pub use admit::is_text;
-pub use fit::box_fit;
 pub use rows::LF;
 pub use rows::clamp;
 pub use rows::clamp_position;
@@ -53,13 +51,6 @@ pub struct Place {
 // A position in the text, or the refusal.
 pub enum Clamped {
     At(Position),
-    BadText,
-}
-
-// Whether every row fits a box, or where the first that does not leaves it.
-pub enum BoxFit {
-    AllFit,
-    Leaves(Position),
     BadText,
 }
 

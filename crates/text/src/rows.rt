@@ -17,6 +17,9 @@ ghost use Rattle.text.specs.Calls.{clampedIn};
 
 pub const LF: u32 = 10;
 
+// How many characters `line_to_char` passes over at once: `last_row` has no early exit, so it is vectorised.
+const BLOCK: usize = 64;
+
 pub fn last_row(text: &[u32]) -> Row
     requires { ⌜ length (now text) ≤ textLimit ⌝ }
     ensures { λ r. ⌜ r .0 ≡ lastRow isLF (now (text .entry)) ⌝ }
@@ -39,8 +42,8 @@ pub fn row_count(text: &[u32]) -> u32
     last_row(text).0 + 1
 }
 
-// Where a row starts; past the last row, where the text ends.
-pub fn line_to_char(text: &[u32], row: Row) -> CharOffset
+// Where a row starts, looked for one character at a time; past the last row, where the text ends.
+fn scan_to_row(text: &[u32], row: Row) -> CharOffset
     ensures { λ r. ⌜ r .0 ≡ rowStart isLF (now (text .entry)) (row .0) ⌝ }
 {
     let mut above = row.0;
@@ -55,6 +58,23 @@ pub fn line_to_char(text: &[u32], row: Row) -> CharOffset
         i += 1;
     }
     CharOffset(i)
+}
+
+// Where a row starts; past the last row, where the text ends. Blocks that the row starts behind are passed over whole.
+pub fn line_to_char(text: &[u32], row: Row) -> CharOffset
+    ensures { λ r. ⌜ r .0 ≡ rowStart isLF (now (text .entry)) (row .0) ⌝ }
+{
+    let mut above = row.0;
+    let mut at = 0;
+    while BLOCK <= text.len() - at {
+        let ended = last_row(&text[at..at + BLOCK]).0;
+        if above <= ended {
+            break;
+        }
+        above -= ended;
+        at += BLOCK;
+    }
+    CharOffset(at + scan_to_row(&text[at..], Row(above)).0)
 }
 
 // How many characters stand from `start` to the next LF, or to the end.
@@ -82,34 +102,26 @@ pub fn line_char_count(text: &[u32], row: Row) -> Col
     Col(run_len(text, start) as u32)
 }
 
-// The row of this number, or the last, found in one scan.
+// The row of this number, from where it starts.
+fn row_from(text: &[u32], row: Row, start: CharOffset) -> Span
+    requires { ⌜ (row .0 ≤ lastRow isLF (now text)) × (start .0 ≡ rowStart isLF (now text) (row .0)) ⌝ }
+    ensures { λ r. ⌜ r ≡ span isLF (now (text .entry)) (row .0) ⌝ }
+{
+    let end = CharOffset(start.0 + run_len(text, start));
+    Span { row, start, end }
+}
+
+// The row of this number, or the last.
 pub fn find_row(text: &[u32], row: Row) -> Span
     requires { ⌜ length (now text) ≤ textLimit ⌝ }
     ensures { λ r. ⌜ r ≡ span isLF (now (text .entry)) (row .0) ⌝ }
 {
-    let want = row.0;
-    let mut above = 0;
-    let mut start = 0;
-    let mut i = 0;
-    while i < text.len() {
-        if text[i] == LF {
-            if above == want {
-                return Span {
-                    row: Row(above),
-                    start: CharOffset(start),
-                    end: CharOffset(i),
-                };
-            }
-            above += 1;
-            start = i + 1;
-        }
-        i += 1;
+    let start = line_to_char(text, row);
+    if start.0 < text.len() {
+        return row_from(text, row, start);
     }
-    Span {
-        row: Row(above),
-        start: CharOffset(start),
-        end: CharOffset(i),
-    }
+    let last = row.min(last_row(text));
+    row_from(text, last, line_to_char(text, last))
 }
 
 // The position, clamped, and its offset.

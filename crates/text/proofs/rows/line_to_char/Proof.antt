@@ -1,52 +1,82 @@
-use mathlib.Core.Logic.{⊎-elim}
 use mathlib.Core.Path.{_≡_, ap}
-use Prim.Native.Nat.{_≤_, _+_, _-_}
-use native.Mathlib.Omega.{arith}
-use borrow.Author.Needs.{needs}
-use lib.ListN.{length, drop}
-use Rattle.text.proofs.Laws.{start-first}
-use Rattle.text.proofs.Scans.{start-at-lf, start-at-other, start-at-end}
+use mathlib.Core.List.{List}
+use Prim.Native.Nat.{ℕ, _≤_, _+_, _-_}
+use lib.ListN.{length, drop, length-take, length-drop}
+use Rattle.promise.proofs.Lists.{tail-whole}
+use Rattle.text.proofs.Laws.{start-le}
+use Rattle.text.proofs.Scans.{start-past-block}
 use Rattle.text.specs.Rows.{rowStart}
 use Rattle.text.specs.Text.{isLF}
+use native.Mathlib.Omega.{arith}
+use borrow.Author.Needs.{needs}
 use Rattle.text.proofs.rows.line_to_char.Statement.{statement}
 use Rattle.text.proofs.rows.line_to_char.Tie as tie
 
 abbrev Inv-loop : tie.InvT-loop
-Inv-loop text above₀ i₀ above i = (i ≤ length text) × (i + rowStart isLF (drop i text) above ≡ rowStart isLF text above₀)
+Inv-loop text above₀ at₀ above at = (at ≤ length text) × (at + rowStart isLF (drop at text) above ≡ rowStart isLF text above₀)
 
 abbrev μ-loop : tie.MeasureT-loop
-μ-loop text above₀ i₀ above i = length text - i
+μ-loop text above₀ at₀ above at = length text - at
 
 loop-holds : tie.Need-loop-holds Inv-loop μ-loop
 loop-holds c = omega arith
 
-returns : tie.Need-returns Inv-loop μ-loop
-returns c = let l = c .before .before .loop in let t = drop (l .i) (c .before .before .before .args .text .now) in
-    omega (arith, ap (rowStart isLF t) (c .if1 .taken), start-first isLF t)
+sub-loop : tie.Need-sub-loop Inv-loop μ-loop
+sub-loop c = search needs
 
-mul-if2 : tie.Need-mul-if2 Inv-loop μ-loop
-mul-if2 c = search needs
+add-last-row : tie.Need-add-last-row Inv-loop μ-loop
+add-last-row c = search needs
 
-shared-slice-read-if2 : tie.Need-shared-slice-read-if2 Inv-loop μ-loop
-shared-slice-read-if2 c = search needs
+mul-last-row : tie.Need-mul-last-row Inv-loop μ-loop
+mul-last-row c = search needs
+
+sub-last-row : tie.Need-sub-last-row Inv-loop μ-loop
+sub-last-row c = search needs
+
+part-last-row-start : tie.Need-part-last-row-start Inv-loop μ-loop
+part-last-row-start c = search needs
+
+part-last-row-end : tie.Need-part-last-row-end Inv-loop μ-loop
+part-last-row-end c = search needs
+
+last-row-requires : tie.Need-last-row-requires Inv-loop μ-loop
+last-row-requires c κs = simp (length-take, length-drop) (omega arith)
 
 sub-above : tie.Need-sub-above Inv-loop μ-loop
 sub-above c = search needs
 
-add-i : tie.Need-add-i Inv-loop μ-loop
-add-i c = search needs
+add-at : tie.Need-add-at Inv-loop μ-loop
+add-at c = search needs
 
 loop-less : tie.Need-loop-less Inv-loop μ-loop
 loop-less c = search needs
 
 loop-again : tie.Need-loop-again Inv-loop μ-loop
-loop-again c = let s = c .before .before .before .before .before .args .text .now in let l = c .before .before .before .before .loop in
-    let h = c .before .before .before .loop-test .taken in let z = c .before .before .if1 .left in
-    ⊎-elim (λ w. omega (arith, start-at-lf s (l .i) h (l .above) z (w .0 .taken), ap (rowStart isLF (drop (l .i + 1) s)) (w .1)))
-    (λ w. omega (arith, start-at-other s (l .i) h (l .above) z (w .0 .left), ap (rowStart isLF (drop (l .i + 1) s)) (w .1))) (c .if2 .came)
+loop-again c = let s = c .before .before .before .before .before .before .args .text .now in let l = c .before .before .before .before .loop in
+    omega (arith, start-past-block s (l .at) 64 (l .above) _ (omega arith) (c .before .last-row .ensures) (omega arith))
 
-returns-2 : tie.Need-returns-2 Inv-loop μ-loop
-returns-2 c = let l = c .before .loop in omega (arith, start-at-end (c .before .before .args .text .now) (l .i) (c .loop-test .left) (l .above))
+mul-scan-to-row : tie.Need-mul-scan-to-row Inv-loop μ-loop
+mul-scan-to-row c = search needs
+
+sub-scan-to-row : tie.Need-sub-scan-to-row Inv-loop μ-loop
+sub-scan-to-row c = search needs
+
+part-scan-to-row-start : tie.Need-part-scan-to-row-start Inv-loop μ-loop
+part-scan-to-row-start c = search needs
+
+part-scan-to-row-end : tie.Need-part-scan-to-row-end Inv-loop μ-loop
+part-scan-to-row-end c = search needs
+
+scan-to-row-requires : tie.Need-scan-to-row-requires Inv-loop μ-loop
+scan-to-row-requires c κs = search needs
+
+add-t21 : tie.Need-add-t21 Inv-loop μ-loop
+add-t21 c = let s = c .before .before .before .before .before .before .args .text .now in let l = c .before .before .before .before .loop in
+    omega (arith, c .before .scan-to-row .ensures, start-le isLF s (c .before .before .before .before .before .before .args .row .0), ap (λ (t : List ℕ). rowStart isLF t (l .above)) (tail-whole s (l .at)))
+
+returns : tie.Need-returns Inv-loop μ-loop
+returns c = let s = c .before .before .before .before .before .before .args .text .now in let l = c .before .before .before .before .loop in
+    omega (arith, c .before .scan-to-row .ensures, ap (λ (t : List ℕ). rowStart isLF t (l .above)) (tail-whole s (l .at)))
 
 pub line-to-char-spec : {M : Type 1} → statement M
 line-to-char-spec =
@@ -55,11 +85,21 @@ line-to-char-spec =
     Inv-loop
     μ-loop
     loop-holds
-    returns
-    mul-if2
-    shared-slice-read-if2
+    sub-loop
+    add-last-row
+    mul-last-row
+    sub-last-row
+    part-last-row-start
+    part-last-row-end
+    last-row-requires
     sub-above
-    add-i
+    add-at
     loop-less
     loop-again
-    returns-2)
+    mul-scan-to-row
+    sub-scan-to-row
+    part-scan-to-row-start
+    part-scan-to-row-end
+    scan-to-row-requires
+    add-t21
+    returns)

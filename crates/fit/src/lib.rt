@@ -1,18 +1,23 @@
 // The box test.
-use crate::BoxFit;
-use crate::Col;
-use crate::Position;
-use crate::Row;
-use crate::admit::is_text;
-use crate::rows::LF;
+use text::Col;
+use text::LF;
+use text::Position;
+use text::Row;
+use text::is_text;
 ghost use mathlib.Core.Path.{_≡_};
 ghost use Prim.Native.Nat.{_+_, _≤_, _<_};
 ghost use lib.ListN.{length};
 ghost use Rattle.promise.specs.Paper.{done};
 ghost use Rattle.text.specs.Rows.{lines};
 ghost use Rattle.text.specs.Text.{isLF, textLimit};
-ghost use Rattle.text.specs.Answers.{paperBoxFit};
-ghost use Rattle.text.specs.Calls.{firstOver, fitsIn};
+ghost use Rattle.fit.specs.Calls.{paperBoxFit, firstOver, fitsIn};
+
+// Whether every row fits a box, or where the first that does not leaves it.
+pub enum BoxFit {
+    AllFit,
+    Leaves(Position),
+    BadText,
+}
 
 // How many cells of a row are taken once the character stands after `cell` taken ones.
 fn cell_after(cell: u32, _character: u32) -> u32

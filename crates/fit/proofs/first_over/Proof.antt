@@ -5,11 +5,11 @@ use native.Mathlib.Omega.{arith}
 use borrow.Author.Needs.{needs}
 use lib.ListN.{length, drop}
 use Rattle.promise.specs.Paper.{Paper, done}
-use Rattle.text.proofs.Boxes.{walk, walk-rows, walk-end, walk-lf, walk-out, walk-on}
-use Rattle.text.specs.Answers.{Fit, paperBoxFit}
-use Rattle.text.specs.declared.BoxFit.the-variants.{AllFit}
-use Rattle.text.proofs.fit.first_over.Statement.{statement}
-use Rattle.text.proofs.fit.first_over.Tie as tie
+use Rattle.fit.proofs.Boxes.{walk, walk-rows, walk-end, walk-lf, walk-out, walk-on}
+use Rattle.fit.specs.Calls.{Fit, paperBoxFit}
+use Rattle.fit.specs.declared.BoxFit.the-variants.{AllFit}
+use Rattle.fit.proofs.first_over.Statement.{statement}
+use Rattle.fit.proofs.first_over.Tie as tie
 
 abbrev Inv-cols : tie.InvT-cols
 Inv-cols text cells answer₀ row i₀ col₀ cell₀ answer i col cell = (i₀ ≤ i) × (i ≤ length text) × (col ≤ i) × (row ≤ i) × (cell ≡ col) × (answer ≡ AllFit) × (walk cells row col (drop i text) ≡ walk cells 0 0 text)

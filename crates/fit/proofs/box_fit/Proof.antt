@@ -1,12 +1,12 @@
 use native.Mathlib.Omega.{arith}
 use borrow.Author.Needs.{needs}
 use lib.ListN.{length-take, length-drop}
 use Rattle.text.proofs.Texts.{bad-text, good-text, done-text}
-use Rattle.text.specs.Calls.{firstOver}
+use Rattle.fit.specs.Calls.{firstOver}
 use Rattle.text.specs.Rows.{lines}
 use Rattle.text.specs.Text.{isLF}
-use Rattle.text.proofs.fit.box_fit.Statement.{statement}
-use Rattle.text.proofs.fit.box_fit.Tie as tie
+use Rattle.fit.proofs.box_fit.Statement.{statement}
+use Rattle.fit.proofs.box_fit.Tie as tie
 
 is-text-requires : tie.Need-is-text-requires
 is-text-requires c κs = search needs

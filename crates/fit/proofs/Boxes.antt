@@ -10,11 +10,10 @@ use native.Mathlib.Omega.{arith}
 use borrow.Author.Tests.{eq-eqb, ne-eqb, lt-ltb, le-ltb}
 use lib.Dec.{ltb}
 use lib.ListN.{length, drop, getD, drop-of-length-le}
 use Rattle.text.specs.Rows.{Line, line, lines, onto, at}
 use Rattle.text.specs.Text.{isLF}
-use Rattle.text.specs.Answers.{Fit, allFit, leaves}
-use Rattle.text.specs.Calls.{firstOver}
+use Rattle.fit.specs.Calls.{Fit, allFit, leaves, firstOver}
 use Rattle.text.proofs.Laws.{lines-cons}
 use Rattle.promise.proofs.Lists.{next}
 
 -- what is left of a text, at row r and after c characters of it
