@@ -91,6 +91,7 @@ module _ (c : ℕ) (b a : List ℕ) (R : List (Line ℕ)) where
 pub record Local (t : List ℕ) (r c : ℕ) (x ns : List ℕ) (e : ℕ) : Type 0 where
   pub within : e ≤ length t
   pub rows : length ns ≤ rowCount isLF (take e t) - r
+  pub start : rowStart isLF (take e t) r ≡ rowStart isLF t r
   pub text : inserted (take e t) r c x ns .text ++ drop e t ≡ inserted t r c x ns .text
   pub pads : inserted (take e t) r c x ns .inverse .second ≡ inserted t r c x ns .inverse .second
 
@@ -120,13 +121,18 @@ module _ (t : List ℕ) (r c k : ℕ) (x ns : List ℕ) (h : r + k ≤ lastRow i
   unfolding rowCount
   some-rows = omega (arith, ap length (lines-cut t (r + k) h), length-append (take (r + k) (lines isLF t)) (line (z .body) [] ∷ []), long t (r + k) h r (omega arith))
 
+  some-start : rowStart isLF (take (e t (r + k) h) t) r ≡ rowStart isLF t r
+  unfolding rowStart
+  some-start = ap (λ (y : List (Line ℕ)). length (unlines y)) (cut-above t (r + k) h r (omega arith))
+
 pub local : (t : List ℕ) (r c : ℕ) (x ns : List ℕ) → length ns ≤ rowCount isLF t - r → Local t r c x ns (lastEnd t r (length ns))
-local t r c x [] h = record { within = omega arith; rows = omega arith; text = rw (take-length, drop-length, append-nil); pads = rw take-length }
+local t r c x [] h = record { within = omega arith; rows = omega arith; start = rw take-length; text = rw (take-length, drop-length, append-nil); pads = rw take-length }
 local t r c x (n ∷ ns) h =
     let j : r + length ns ≤ lastRow isLF t = omega (arith, count-last isLF t) in
     record {
       within = row-within isLF t (r + length ns);
       rows = some-rows t r c (length ns) x (n ∷ ns) j refl;
+      start = some-start t r c (length ns) x (n ∷ ns) j refl;
       text = some-text t r c (length ns) x (n ∷ ns) j refl;
       pads = some-pads t r c (length ns) x (n ∷ ns) j refl;
     }

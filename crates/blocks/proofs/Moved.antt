@@ -9,7 +9,7 @@ use lib.Seq.{paste, take-at, drop-at, take-take, drop-drop, length-take-le}
 use Rattle.promise.specs.Slices.{over}
 use Rattle.promise.proofs.Lists.{drop-take, tail-whole, tail-back}
 use Rattle.text.specs.declared.Position.{Position}
-use Rattle.text.specs.Rows.{rowCount}
+use Rattle.text.specs.Rows.{rowCount, rowStart}
 use Rattle.text.specs.Text.{isLF, renewed}
 use Rattle.text.proofs.Ended.{Plain}
 use Rattle.edit.specs.Edits.{Edited, blockInserted}
@@ -96,12 +96,13 @@ module _ (b : List ℕ) (used : ℕ) (p : Position) (x ns : List ℕ) (size e : 
         let u = blockInserted isLF isSpace spaces (take e (take used b)) p x ns .text in
         rw same (omega (arith, ap length (cut .text), length-append u (drop e (take used b)), length-drop e (take used b), length-take used b, cut .within, extent-fits .1))
 
-    pub front-asked : p .row .0 ≤ 1_000_000 → length ns ≤ 256 → Plain x → size ≤ 16_384 → (q : List ℕ) → length ns ≤ length q
-        → (e ≤ length f) × (p .row .0 ≤ 1_000_000) × (length ns ≤ 256) × (length ns ≤ rowCount isLF (take e f) - p .row .0) × (sum ns ≤ length x) × Plain x
+    pub front-asked : (s : ℕ) → s ≡ rowStart isLF (take used b) (p .row .0) → p .row .0 ≤ 1_000_000 → length ns ≤ 256 → Plain x → size ≤ 16_384 → (q : List ℕ) → length ns ≤ length q
+        → (e ≤ length f) × (s ≡ rowStart isLF (take e f) (p .row .0)) × (p .row .0 ≤ 1_000_000) × (length ns ≤ 256) × (length ns ≤ rowCount isLF (take e f) - p .row .0) × (sum ns ≤ length x) × Plain x
         × (length (putFrom f e p x ns .text) ≤ length f) × (length (putFrom f e p x ns .text) ≤ 16_384) × (length ns ≤ length q)
-    front-asked h₁ h₂ h₃ h₄ q h₅ =
+    front-asked s eb h₁ h₂ h₃ h₄ q h₅ =
         let l = front-long b y used e (size - used) (extent-fits .0) room-all ey in
-        (omega arith, h₁, h₂, rw (front-text b y used e (size - used) (extent-fits .0) room-all ey) (cut .rows), hx, h₃, omega (arith, fills), omega (arith, fills, extent-fits), h₅)
+        let t = front-text b y used e (size - used) (extent-fits .0) room-all ey in
+        (omega arith, rw t (eb ∙ sym (cut .start)), h₁, h₂, rw t (cut .rows), hx, h₃, omega (arith, fills), omega (arith, fills, extent-fits), h₅)
 
     pub chunks-put : (s q q₁ : List ℕ) → left s q₁ ≡ leftBy (putFrom f e p x ns) f e q
         → left (s ++ drop (e + (size - used) - 0) (moved b y used e (size - used))) q₁ ≡ leftBy (putFrom b used p x ns) b used q

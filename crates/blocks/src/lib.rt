@@ -29,9 +29,11 @@ struct Put {
     end: CharOffset,
 }
 
-// How long the text is once the chunks are in, and where in the text as it is the last row that gets one ends.
+// How long the text is once the chunks are in, and where in the text as it is the first row that gets one starts and the
+// last ends.
 struct Extent {
     size: usize,
+    start: CharOffset,
     end: CharOffset,
 }
 
@@ -68,13 +70,14 @@ fn put_splice(text: &[u32], begin: CharOffset, pos: Position) -> Put
 // What the chunks need, whatever they hold.
 fn put_size(text: &[u32], at: Position, lens: &[u32]) -> Extent
     requires { ⌜ (length (now text) ≤ textLimit) × (at .row .0 ≤ 1_000_000) × (length (now lens) ≤ 256) × (length (now lens) ≤ rowCount isLF (now text) - at .row .0) ⌝ }
-    ensures { λ r. ⌜ ((x : List ℕ) → sum (now (lens .entry)) ≤ length x → r .size ≡ length (blockInserted isLF isSpace spaces (now (text .entry)) at x (now (lens .entry)) .text)) × (r .end .0 ≡ lastEnd (now (text .entry)) (at .row .0) (length (now (lens .entry)))) ⌝ }
+    ensures { λ r. ⌜ ((x : List ℕ) → sum (now (lens .entry)) ≤ length x → r .size ≡ length (blockInserted isLF isSpace spaces (now (text .entry)) at x (now (lens .entry)) .text)) × (r .start .0 ≡ rowStart isLF (now (text .entry)) (at .row .0)) × (r .end .0 ≡ lastEnd (now (text .entry)) (at .row .0) (length (now (lens .entry)))) ⌝ }
 {
     let row = at.row.0;
     let col = at.col;
     let mut size = text.len();
     let mut end = text.len();
-    let mut start = text::line_to_char(text, at.row).0;
+    let first = text::line_to_char(text, at.row).0;
+    let mut start = first;
     let mut k = 0;
     while k < lens.len() {
         let pos = Position {
@@ -91,26 +94,28 @@ fn put_size(text: &[u32], at: Position, lens: &[u32]) -> Extent
     }
     Extent {
         size,
+        start: CharOffset(first),
         end: CharOffset(end),
     }
 }
 
-// Puts the chunks in, one to each row.
+// Puts the chunks in, one to each row. The first begins at `begin`.
 fn put_rows(
     text: &mut [u32],
     used: usize,
+    begin: CharOffset,
     at: Position,
     payload: &[u32],
     lens: &[u32],
     pads: &mut [u32],
 )
-    requires { ⌜ (used ≤ length (now text)) × (at .row .0 ≤ 1_000_000) × (length (now lens) ≤ 256) × (length (now lens) ≤ rowCount isLF (take used (now text)) - at .row .0) × (sum (now lens) ≤ length (now payload)) × T (all (λ c. not (isLF c)) (now payload)) × (length (putFrom (now text) used at (now payload) (now lens) .text) ≤ length (now text)) × (length (putFrom (now text) used at (now payload) (now lens) .text) ≤ textLimit) × (length (now lens) ≤ length (now pads)) ⌝ }
+    requires { ⌜ (used ≤ length (now text)) × (begin .0 ≡ rowStart isLF (take used (now text)) (at .row .0)) × (at .row .0 ≤ 1_000_000) × (length (now lens) ≤ 256) × (length (now lens) ≤ rowCount isLF (take used (now text)) - at .row .0) × (sum (now lens) ≤ length (now payload)) × T (all (λ c. not (isLF c)) (now payload)) × (length (putFrom (now text) used at (now payload) (now lens) .text) ≤ length (now text)) × (length (putFrom (now text) used at (now payload) (now lens) .text) ≤ textLimit) × (length (now lens) ≤ length (now pads)) ⌝ }
     ensures { λ _. ⌜ left (now (text .exit)) (now (pads .exit)) ≡ leftBy (putFrom (now (text .entry)) used at (now (payload .entry)) (now (lens .entry))) (now (text .entry)) used (now (pads .entry)) ⌝ }
 {
     let row = at.row.0;
     let col = at.col;
     let mut long = used;
-    let mut start = text::line_to_char(&text[0..used], at.row).0;
+    let mut start = begin.0;
     let mut from = 0;
     let mut k = 0;
     while k < lens.len() {
@@ -141,14 +146,23 @@ fn put_chunks(
     lens: &[u32],
     pads: &mut [u32],
 )
-    requires { ⌜ (used ≤ length (now text)) × (at .row .0 ≤ 1_000_000) × (length (now lens) ≤ 256) × (length (now lens) ≤ rowCount isLF (take used (now text)) - at .row .0) × (sum (now lens) ≤ length (now payload)) × T (all (λ c. not (isLF c)) (now payload)) × (extent .size ≡ length (putFrom (now text) used at (now payload) (now lens) .text)) × (extent .end .0 ≡ lastEnd (take used (now text)) (at .row .0) (length (now lens))) × (extent .size ≤ length (now text)) × (extent .size ≤ textLimit) × (length (now lens) ≤ length (now pads)) ⌝ }
+    requires { ⌜ (used ≤ length (now text)) × (at .row .0 ≤ 1_000_000) × (length (now lens) ≤ 256) × (length (now lens) ≤ rowCount isLF (take used (now text)) - at .row .0) × (sum (now lens) ≤ length (now payload)) × T (all (λ c. not (isLF c)) (now payload)) × (extent .size ≡ length (putFrom (now text) used at (now payload) (now lens) .text)) × (extent .start .0 ≡ rowStart isLF (take used (now text)) (at .row .0)) × (extent .end .0 ≡ lastEnd (take used (now text)) (at .row .0) (length (now lens))) × (extent .size ≤ length (now text)) × (extent .size ≤ textLimit) × (length (now lens) ≤ length (now pads)) ⌝ }
     ensures { λ _. ⌜ left (now (text .exit)) (now (pads .exit)) ≡ leftBy (putFrom (now (text .entry)) used at (now (payload .entry)) (now (lens .entry))) (now (text .entry)) used (now (pads .entry)) ⌝ }
 {
+    let start = extent.start.0;
     let end = extent.end.0;
     let size = extent.size;
     let grown = size - used;
     splice::shift_up(&mut text[end..], used - end, grown);
-    put_rows(&mut text[0..end + grown], end, at, payload, lens, pads);
+    put_rows(
+        &mut text[0..end + grown],
+        end,
+        CharOffset(start),
+        at,
+        payload,
+        lens,
+        pads,
+    );
 }
 
 pub fn insert_block(

@@ -91,7 +91,7 @@ part-put-chunks-end : tie.Need-part-put-chunks-end
 part-put-chunks-end c = search needs
 
 put-chunks-requires : tie.Need-put-chunks-requires
-put-chunks-requires c κs = let a = c .before .before .before .before .before .before .before .before .before .before .before .before .before .before .before .before .before .before .args in let k = roomy (c .before .before .before) in let p = c .before .before .before .before .before .before .before .before .before .before .before .before .before .before .before .before .before .before .pre in chunks-asked (a .text .now) (a .view .used) (a .at) (a .payload .now) (a .lens .now) (c .before .before .before .before .before .before .before .before .before .before .rows-from .result) (c .before .before .before .before .before .before .put-size .result .size) (c .before .before .before .before .before .before .before .before .before .before .rows-from .ensures) (c .before .before .before .before .before .before .before .before .before .before .before .before .before .before .before .before .before .before .pre .4) (c .before .before .before .before .before .before .put-size .ensures .0) (c .before .before .before .before .before .before .put-size .result .end .0) (c .before .before .before .before .before .before .put-size .ensures .1) (p .0) (p .2) (p .3) (p .5) (k .0) (k .1) (a .pads .now) (k .3)
+put-chunks-requires c κs = let a = c .before .before .before .before .before .before .before .before .before .before .before .before .before .before .before .before .before .before .args in let k = roomy (c .before .before .before) in let p = c .before .before .before .before .before .before .before .before .before .before .before .before .before .before .before .before .before .before .pre in chunks-asked (a .text .now) (a .view .used) (a .at) (a .payload .now) (a .lens .now) (c .before .before .before .before .before .before .before .before .before .before .rows-from .result) (c .before .before .before .before .before .before .put-size .result .size) (c .before .before .before .before .before .before .before .before .before .before .rows-from .ensures) (c .before .before .before .before .before .before .before .before .before .before .before .before .before .before .before .before .before .before .pre .4) (c .before .before .before .before .before .before .put-size .ensures .0) (c .before .before .before .before .before .before .put-size .result .start .0) (c .before .before .before .before .before .before .put-size .ensures .1) (c .before .before .before .before .before .before .put-size .result .end .0) (c .before .before .before .before .before .before .put-size .ensures .2) (p .0) (p .2) (p .3) (p .5) (k .0) (k .1) (a .pads .now) (k .3)
 
 sub-fill : tie.Need-sub-fill
 sub-fill c = search needs

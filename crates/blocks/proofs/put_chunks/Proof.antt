@@ -10,7 +10,7 @@ use Rattle.blocks.proofs.put_rows.Reads as put-rows-reads
 use Rattle.splice.proofs.shift_up.Reads as shift-up-reads
 
 fits : (s : tie.Start) → (s .args .extent .end .0 ≤ s .args .used) × (s .args .used ≤ s .args .extent .size)
-fits s = let a = s .args in extent-fits (a .text .now) (a .used) (a .at) (a .payload .now) (a .lens .now) (a .extent .size) (a .extent .end .0) (s .pre .0) (s .pre .3) (s .pre .4) (s .pre .6) (s .pre .7) (s .pre .8)
+fits s = let a = s .args in extent-fits (a .text .now) (a .used) (a .at) (a .payload .now) (a .lens .now) (a .extent .size) (a .extent .end .0) (s .pre .0) (s .pre .3) (s .pre .4) (s .pre .6) (s .pre .8) (s .pre .9)
 
 sub-grown : tie.Need-sub-grown
 sub-grown c = omega (arith, fits (c .before .before .before .before))
@@ -46,7 +46,7 @@ part-put-rows-end : tie.Need-part-put-rows-end
 part-put-rows-end c = omega (arith, fits (c .before .before .before .before .before .before .before .before))
 
 put-rows-requires : tie.Need-put-rows-requires
-put-rows-requires c κs = let s = c .before .before .before .before .before .before .before .before .before .before in let a = s .args in front-asked (a .text .now) (a .used) (a .at) (a .payload .now) (a .lens .now) (a .extent .size) (a .extent .end .0) (s .pre .0) (s .pre .3) (s .pre .4) (s .pre .6) (s .pre .7) (s .pre .8) _ (c .before .before .before .before .shift-up .ensures) (s .pre .1) (s .pre .2) (s .pre .5) (s .pre .9) (a .pads .now) (s .pre .10)
+put-rows-requires c κs = let s = c .before .before .before .before .before .before .before .before .before .before in let a = s .args in front-asked (a .text .now) (a .used) (a .at) (a .payload .now) (a .lens .now) (a .extent .size) (a .extent .end .0) (s .pre .0) (s .pre .3) (s .pre .4) (s .pre .6) (s .pre .8) (s .pre .9) _ (c .before .before .before .before .shift-up .ensures) (a .extent .start .0) (s .pre .7) (s .pre .1) (s .pre .2) (s .pre .5) (s .pre .10) (a .pads .now) (s .pre .11)
 
 same-length : tie.Need-same-length
 same-length c = search needs
@@ -55,7 +55,7 @@ same-length-2 : tie.Need-same-length-2
 same-length-2 c = search needs
 
 returns : tie.Need-returns
-returns c = let s = c .before .before .before .before .before .before .before .before .before .before .before .before .before .before .before in let a = s .args in chunks-put (a .text .now) (a .used) (a .at) (a .payload .now) (a .lens .now) (a .extent .size) (a .extent .end .0) (s .pre .0) (s .pre .3) (s .pre .4) (s .pre .6) (s .pre .7) (s .pre .8) _ (c .before .before .before .before .before .before .before .before .before .shift-up .ensures) _ (a .pads .now) _ (c .before .before .before .before .put-rows .ensures)
+returns c = let s = c .before .before .before .before .before .before .before .before .before .before .before .before .before .before .before in let a = s .args in chunks-put (a .text .now) (a .used) (a .at) (a .payload .now) (a .lens .now) (a .extent .size) (a .extent .end .0) (s .pre .0) (s .pre .3) (s .pre .4) (s .pre .6) (s .pre .8) (s .pre .9) _ (c .before .before .before .before .before .before .before .before .before .shift-up .ensures) _ (a .pads .now) _ (c .before .before .before .before .put-rows .ensures)
 
 pub put-chunks-spec : {M : Type 1} → statement M
 put-chunks-spec =
