@@ -40,7 +40,7 @@ pub record Putting (b₀ : List ℕ) (used r c : ℕ) (x ns q₀ b q : List ℕ)
 
 -- ---- at the start
 
-pub putting-none : (b₀ : List ℕ) (used r c : ℕ) (x ns q₀ : List ℕ) (start : ℕ) → used ≤ length b₀ → sum ns ≤ length x → start ≡ rowStart isLF (take (used - 0) b₀) r
+pub putting-none : (b₀ : List ℕ) (used r c : ℕ) (x ns q₀ : List ℕ) (start : ℕ) → used ≤ length b₀ → sum ns ≤ length x → start ≡ rowStart isLF (take used b₀) r
     → Putting b₀ used r c x ns q₀ b₀ q₀ used start 0 0
 putting-none b₀ used r c x ns q₀ start h s e = record {
   within = omega arith;
@@ -51,7 +51,7 @@ putting-none b₀ used r c x ns q₀ start h s e = record {
   left = omega arith;
   kept = renewed-same b₀ used h;
   rows = refl;
-  begins = begins-first (take used b₀) r (length ns) start (rw sub-zero at e);
+  begins = begins-first (take used b₀) r (length ns) start e;
   text = rw add-zero;
   pads = refl;
   rest = rw add-zero;

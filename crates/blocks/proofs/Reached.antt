@@ -8,7 +8,7 @@ use lib.ListN.{length, take, drop, replicate, length-take, length-drop}
 use lib.Seq.{paste}
 use Rattle.promise.specs.Slices.{over}
 use Rattle.text.specs.declared.Position.{Position}
-use Rattle.text.specs.Rows.{Line, lines, at, rowCount, clamp}
+use Rattle.text.specs.Rows.{Line, lines, at, rowCount, rowStart, clamp}
 use Rattle.text.specs.Text.{isLF, renewed}
 use Rattle.text.proofs.Ended.{Plain}
 use Rattle.text.proofs.Renewed.{renewed-text}
@@ -20,7 +20,7 @@ use Rattle.edit.specs.Edits.{Edited, putAll, padsOf, pieces, blockInserted}
 use Rattle.edit.specs.Refusals.{isSpace, spaces, sum}
 use Rattle.edit.specs.Call.{planOf, appliedAs}
 use Rattle.edit.proofs.Workers.{Fits}
-use Rattle.blocks.specs.Blocks.{Left, left, putFrom, leftBy}
+use Rattle.blocks.specs.Blocks.{lastEnd, Left, left, putFrom, leftBy}
 use Rattle.blocks.proofs.Puts.{inserted, pads-length}
 
 -- ---- rows
@@ -133,14 +133,14 @@ module _ (b : List ℕ) (used : ℕ) (p : Position) (x ns : List ℕ) (m size : 
     room-found R f w q hb hw hq =
         (omega (arith, size-found, f .buffer), omega (arith, size-found, f .limit), omega (arith, f .first, ap length (first-is t p x ns)), omega (arith, f .second, pads-length t (p .row .0) (p .col .0) x ns))
 
-    pub rows-asked : used ≤ length b → p .row .0 ≤ 1_000_000 → length ns ≤ 256 → Plain x → size ≤ length b → size ≤ 16_384 → (q : List ℕ) → length ns ≤ length q
+    pub chunks-asked : (s : ℕ) → s ≡ rowStart isLF (take (used - 0) b) (p .row .0) → (e : ℕ) → e ≡ lastEnd (take (used - 0) b) (p .row .0) (length (take (m - 0) ns)) → used ≤ length b → p .row .0 ≤ 1_000_000 → length ns ≤ 256 → Plain x
+        → size ≤ length b → size ≤ 16_384 → (q : List ℕ) → length ns ≤ length q
         → (used ≤ length b) × (p .row .0 ≤ 1_000_000) × (length (take (m - 0) ns) ≤ 256) × (length (take (m - 0) ns) ≤ rowCount isLF t - p .row .0) × (sum (take (m - 0) ns) ≤ length x) × Plain x
-        × (length (putFrom b used p x (take (m - 0) ns) .text) ≤ length b) × (length (putFrom b used p x (take (m - 0) ns) .text) ≤ 16_384)
+        × (size ≡ length (putFrom b used p x (take (m - 0) ns) .text)) × (s ≡ rowStart isLF t (p .row .0)) × (e ≡ lastEnd t (p .row .0) (length (take (m - 0) ns))) × (size ≤ length b) × (size ≤ 16_384)
         × (length (take (m - 0) ns) ≤ length q)
-    rows-asked hu hr hn hp hb hl q hq =
+    chunks-asked s eb e ee hu hr hn hp hb hl q hq =
         let l : length (take (m - 0) ns) ≡ m = length-take (m - 0) ns ∙ omega (arith, rows-found) in
-        let f : length (putFrom b used p x (take (m - 0) ns) .text) ≡ size = ap length front-found ∙ sym size-found in
-        (hu, hr, omega arith, omega (arith, rows-found), rw sub-zero (omega (arith, sum-take m ns)), hp, omega arith, omega arith, omega (arith, rows-found))
+        (hu, hr, omega arith, omega (arith, rows-found), rw sub-zero (omega (arith, sum-take m ns)), hp, size-found ∙ sym (ap length front-found), eb ∙ rw sub-zero, ee ∙ rw sub-zero, hb, hl, omega (arith, rows-found))
 
     -- b₁ and q₁ are left by the loop, q₂ by the fill
     module _ (b₁ q q₁ q₂ : List ℕ) (e : left b₁ q₁ ≡ leftBy (putFrom b used p x (take (m - 0) ns)) b used q) where

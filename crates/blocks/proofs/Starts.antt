@@ -11,7 +11,7 @@ use Rattle.text.specs.Text.{isLF, all}
 use Rattle.text.proofs.Laws.{row-at, len-le, count-last}
 use Rattle.text.proofs.Spots.{row-within}
 use Rattle.text.proofs.Ended.{Plain, ended-at, unlines-append}
-use Rattle.text.proofs.Changes.{rowOf, rows-below, row-exists}
+use Rattle.text.proofs.Changes.{rowOf, rows-below}
 use Rattle.text.proofs.Turns.{newRow, Turned, from-turned}
 
 -- what a scan from s on finds

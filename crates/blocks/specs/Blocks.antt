@@ -1,7 +1,7 @@
 -- What the parts of a block insert find and leave.
 use mathlib.Core.List.{List}
-use Prim.Native.Nat.{ℕ, _+_, _-_}
-use lib.ListN.{take}
+use Prim.Native.Nat.{ℕ, zero, suc, _+_, _-_}
+use lib.ListN.{length, take}
 use Rattle.promise.specs.Slices.{over}
 use Rattle.text.specs.declared.Position.{Position}
 use Rattle.text.specs.Rows.{charAt, rowLen, rowStart, offset}
@@ -18,7 +18,12 @@ putAt t p = record {
   end = charAt (rowStart isLF t (p .row .0) + rowLen isLF t (p .row .0));
 }
 
--- put_rows: the two slices that it writes
+-- put_size: where the last of n rows from r on ends; of no rows, the end of the text
+abbrev pub lastEnd : List ℕ → ℕ → ℕ → ℕ
+lastEnd t r zero = length t
+lastEnd t r (suc n) = rowStart isLF t (r + n) + rowLen isLF t (r + n)
+
+-- put_rows, put_chunks: the two slices that it writes
 pub record Left : Type 0 where
   pub text : List ℕ
   pub pads : List ℕ

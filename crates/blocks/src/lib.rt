@@ -20,12 +20,20 @@ ghost use Rattle.text.specs.Text.{isLF, textLimit, all};
 ghost use Rattle.edit.specs.Edits.{blockInserted};
 ghost use Rattle.edit.specs.Refusals.{isSpace, spaces, sum};
 ghost use Rattle.edit.specs.Call.{paperAnswer, outcome, lent, roomOf, finished};
-ghost use Rattle.blocks.specs.Blocks.{putAt, left, putFrom, leftBy};
+ghost use Rattle.blocks.specs.Blocks.{putAt, lastEnd, left, putFrom, leftBy};
 
 // Where a chunk goes into a row, how many spaces come before it, and where the row ends.
 struct Put {
     at: CharOffset,
     pad: u32,
+    end: CharOffset,
+}
+
+// How long the text is once the chunks are in, and where in the text as it is the first row that gets one starts and the
+// last ends.
+struct Extent {
+    size: usize,
+    start: CharOffset,
     end: CharOffset,
 }
 
@@ -59,15 +67,17 @@ fn put_splice(text: &[u32], begin: CharOffset, pos: Position) -> Put
     }
 }
 
-// How long the text is once the chunks are in, whatever they are.
-fn put_size(text: &[u32], at: Position, lens: &[u32]) -> usize
+// What the chunks need, whatever they hold.
+fn put_size(text: &[u32], at: Position, lens: &[u32]) -> Extent
     requires { ⌜ (length (now text) ≤ textLimit) × (at .row .0 ≤ 1_000_000) × (length (now lens) ≤ 256) × (length (now lens) ≤ rowCount isLF (now text) - at .row .0) ⌝ }
-    ensures { λ r. ⌜ ((x : List ℕ) → sum (now (lens .entry)) ≤ length x → r ≡ length (blockInserted isLF isSpace spaces (now (text .entry)) at x (now (lens .entry)) .text)) ⌝ }
+    ensures { λ r. ⌜ ((x : List ℕ) → sum (now (lens .entry)) ≤ length x → r .size ≡ length (blockInserted isLF isSpace spaces (now (text .entry)) at x (now (lens .entry)) .text)) × (r .start .0 ≡ rowStart isLF (now (text .entry)) (at .row .0)) × (r .end .0 ≡ lastEnd (now (text .entry)) (at .row .0) (length (now (lens .entry)))) ⌝ }
 {
     let row = at.row.0;
     let col = at.col;
     let mut size = text.len();
-    let mut start = text::line_to_char(text, at.row).0;
+    let mut end = text.len();
+    let first = text::line_to_char(text, at.row).0;
+    let mut start = first;
     let mut k = 0;
     while k < lens.len() {
         let pos = Position {
@@ -78,28 +88,34 @@ fn put_size(text: &[u32], at: Position, lens: &[u32]) -> usize
         let pad = put.pad as usize;
         let len = lens[k] as usize;
         size += pad + len;
-        start = put.end.0 + 1;
+        end = put.end.0;
+        start = end + 1;
         k += 1;
     }
-    size
+    Extent {
+        size,
+        start: CharOffset(first),
+        end: CharOffset(end),
+    }
 }
 
-// Puts the chunks in, one to each row.
+// Puts the chunks in, one to each row. The first begins at `begin`.
 fn put_rows(
     text: &mut [u32],
     used: usize,
+    begin: CharOffset,
     at: Position,
     payload: &[u32],
     lens: &[u32],
     pads: &mut [u32],
 )
-    requires { ⌜ (used ≤ length (now text)) × (at .row .0 ≤ 1_000_000) × (length (now lens) ≤ 256) × (length (now lens) ≤ rowCount isLF (take used (now text)) - at .row .0) × (sum (now lens) ≤ length (now payload)) × T (all (λ c. not (isLF c)) (now payload)) × (length (putFrom (now text) used at (now payload) (now lens) .text) ≤ length (now text)) × (length (putFrom (now text) used at (now payload) (now lens) .text) ≤ textLimit) × (length (now lens) ≤ length (now pads)) ⌝ }
+    requires { ⌜ (used ≤ length (now text)) × (begin .0 ≡ rowStart isLF (take used (now text)) (at .row .0)) × (at .row .0 ≤ 1_000_000) × (length (now lens) ≤ 256) × (length (now lens) ≤ rowCount isLF (take used (now text)) - at .row .0) × (sum (now lens) ≤ length (now payload)) × T (all (λ c. not (isLF c)) (now payload)) × (length (putFrom (now text) used at (now payload) (now lens) .text) ≤ length (now text)) × (length (putFrom (now text) used at (now payload) (now lens) .text) ≤ textLimit) × (length (now lens) ≤ length (now pads)) ⌝ }
     ensures { λ _. ⌜ left (now (text .exit)) (now (pads .exit)) ≡ leftBy (putFrom (now (text .entry)) used at (now (payload .entry)) (now (lens .entry))) (now (text .entry)) used (now (pads .entry)) ⌝ }
 {
     let row = at.row.0;
     let col = at.col;
     let mut long = used;
-    let mut start = text::line_to_char(&text[0..used], at.row).0;
+    let mut start = begin.0;
     let mut from = 0;
     let mut k = 0;
     while k < lens.len() {
@@ -120,6 +136,35 @@ fn put_rows(
     }
 }
 
+// Puts the chunks in, the text behind the last of their rows moved once.
+fn put_chunks(
+    text: &mut [u32],
+    used: usize,
+    extent: Extent,
+    at: Position,
+    payload: &[u32],
+    lens: &[u32],
+    pads: &mut [u32],
+)
+    requires { ⌜ (used ≤ length (now text)) × (at .row .0 ≤ 1_000_000) × (length (now lens) ≤ 256) × (length (now lens) ≤ rowCount isLF (take used (now text)) - at .row .0) × (sum (now lens) ≤ length (now payload)) × T (all (λ c. not (isLF c)) (now payload)) × (extent .size ≡ length (putFrom (now text) used at (now payload) (now lens) .text)) × (extent .start .0 ≡ rowStart isLF (take used (now text)) (at .row .0)) × (extent .end .0 ≡ lastEnd (take used (now text)) (at .row .0) (length (now lens))) × (extent .size ≤ length (now text)) × (extent .size ≤ textLimit) × (length (now lens) ≤ length (now pads)) ⌝ }
+    ensures { λ _. ⌜ left (now (text .exit)) (now (pads .exit)) ≡ leftBy (putFrom (now (text .entry)) used at (now (payload .entry)) (now (lens .entry))) (now (text .entry)) used (now (pads .entry)) ⌝ }
+{
+    let start = extent.start.0;
+    let end = extent.end.0;
+    let size = extent.size;
+    let grown = size - used;
+    splice::shift_up(&mut text[end..], used - end, grown);
+    put_rows(
+        &mut text[0..end + grown],
+        end,
+        CharOffset(start),
+        at,
+        payload,
+        lens,
+        pads,
+    );
+}
+
 pub fn insert_block(
     text: &mut [u32],
     view: View,
@@ -136,7 +181,8 @@ pub fn insert_block(
     let used = view.used;
     let count = lens.len();
     let rows = rows_from(&text[0..used], at.row, count);
-    let size = put_size(&text[0..used], at, &lens[0..rows]);
+    let extent = put_size(&text[0..used], at, &lens[0..rows]);
+    let size = extent.size;
     let planned = Plan {
         used: size,
         payload: 0,
@@ -147,7 +193,7 @@ pub fn insert_block(
     if let Verdict::Bad(why) = verdict {
         return Answer::Refused(why);
     }
-    put_rows(text, used, at, payload, &lens[0..rows], pads);
+    put_chunks(text, used, extent, at, payload, &lens[0..rows], pads);
     splice::fill(pads, CharOffset(rows), count - rows, 0);
     splice::copy_in(widths, CharOffset(0), lens);
     let cursor = text::clamp(&text[0..size], at);

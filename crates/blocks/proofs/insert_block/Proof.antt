@@ -6,7 +6,7 @@ use lib.ListN.{length, take}
 use Rattle.promise.specs.Slices.{over}
 use Rattle.edit.specs.Call.{planOf, lent}
 use Rattle.blocks.specs.Blocks.{putFrom}
-use Rattle.blocks.proofs.Reached.{plan-found, room-found, rows-asked, text-found, applied-found, pads-found, widths-found, payload-none}
+use Rattle.blocks.proofs.Reached.{plan-found, room-found, chunks-asked, text-found, applied-found, pads-found, widths-found, payload-none}
 use Rattle.edit.proofs.Workers.{worked-fits, worked-refused, worked-done}
 use native.Mathlib.Omega.{arith}
 use borrow.Author.Needs.{needs}
@@ -14,7 +14,7 @@ use Rattle.blocks.proofs.insert_block.Statement.{statement}
 use Rattle.blocks.proofs.insert_block.Tie as tie
 use Rattle.blocks.proofs.insert_block.Reads as reads
 use Rattle.blocks.proofs.insert_block.Lts as lts
-use Rattle.blocks.proofs.put_rows.Reads as put-rows-reads
+use Rattle.blocks.proofs.put_chunks.Reads as put-chunks-reads
 use Rattle.blocks.proofs.put_size.Reads as put-size-reads
 use Rattle.blocks.proofs.rows_from.Reads as rows-from-reads
 use Rattle.plan.proofs.judge.Reads as judge-reads
@@ -24,13 +24,13 @@ use Rattle.splice.proofs.fill.Reads as fill-reads
 use Rattle.text.proofs.clamp.Reads as clamp-reads
 
 planned : (c : tie.After-judge) → planOf (putFrom (c .before .before .before .before .before .before .before .before .before .before .before .before .before .args .text .now) (c .before .before .before .before .before .before .before .before .before .before .before .before .before .args .view .used) (c .before .before .before .before .before .before .before .before .before .before .before .before .before .args .at) (c .before .before .before .before .before .before .before .before .before .before .before .before .before .args .payload .now) (c .before .before .before .before .before .before .before .before .before .before .before .before .before .args .lens .now))
-    ≡ record { used = c .before .put-size .result; payload = 0; first = length (c .before .before .before .before .before .before .before .before .before .before .before .before .before .args .lens .now); second = length (c .before .before .before .before .before .before .before .before .before .before .before .before .before .args .lens .now) }
+    ≡ record { used = c .before .put-size .result .size; payload = 0; first = length (c .before .before .before .before .before .before .before .before .before .before .before .before .before .args .lens .now); second = length (c .before .before .before .before .before .before .before .before .before .before .before .before .before .args .lens .now) }
 planned c = let a = c .before .before .before .before .before .before .before .before .before .before .before .before .before .args in
-    plan-found (a .text .now) (a .view .used) (a .at) (a .payload .now) (a .lens .now) (c .before .before .before .before .before .rows-from .result) (c .before .put-size .result) (c .before .before .before .before .before .rows-from .ensures) (c .before .before .before .before .before .before .before .before .before .before .before .before .before .pre .4) (c .before .put-size .ensures)
+    plan-found (a .text .now) (a .view .used) (a .at) (a .payload .now) (a .lens .now) (c .before .before .before .before .before .rows-from .result) (c .before .put-size .result .size) (c .before .before .before .before .before .rows-from .ensures) (c .before .before .before .before .before .before .before .before .before .before .before .before .before .pre .4) (c .before .put-size .ensures .0)
 
-roomy : (c : tie.After-enum-told) → (c .before .before .before .put-size .result ≤ length (c .before .before .before .before .before .before .before .before .before .before .before .before .before .before .before .args .text .now)) × (c .before .before .before .put-size .result ≤ 16_384) × (length (c .before .before .before .before .before .before .before .before .before .before .before .before .before .before .before .args .lens .now) ≤ length (c .before .before .before .before .before .before .before .before .before .before .before .before .before .before .before .args .widths .now)) × (length (c .before .before .before .before .before .before .before .before .before .before .before .before .before .before .before .args .lens .now) ≤ length (c .before .before .before .before .before .before .before .before .before .before .before .before .before .before .before .args .pads .now))
+roomy : (c : tie.After-enum-told) → (c .before .before .before .put-size .result .size ≤ length (c .before .before .before .before .before .before .before .before .before .before .before .before .before .before .before .args .text .now)) × (c .before .before .before .put-size .result .size ≤ 16_384) × (length (c .before .before .before .before .before .before .before .before .before .before .before .before .before .before .before .args .lens .now) ≤ length (c .before .before .before .before .before .before .before .before .before .before .before .before .before .before .before .args .widths .now)) × (length (c .before .before .before .before .before .before .before .before .before .before .before .before .before .before .before .args .lens .now) ≤ length (c .before .before .before .before .before .before .before .before .before .before .before .before .before .before .before .args .pads .now))
 roomy c = let a = c .before .before .before .before .before .before .before .before .before .before .before .before .before .before .before .args in let p = c .before .before .before .before .before .before .before .before .before .before .before .before .before .before .before .pre in
-    room-found (a .text .now) (a .view .used) (a .at) (a .payload .now) (a .lens .now) (c .before .before .before .before .before .before .before .rows-from .result) (c .before .before .before .put-size .result) (c .before .before .before .before .before .before .before .rows-from .ensures) (p .4) (c .before .before .before .put-size .ensures) (a .room)
+    room-found (a .text .now) (a .view .used) (a .at) (a .payload .now) (a .lens .now) (c .before .before .before .before .before .before .before .rows-from .result) (c .before .before .before .put-size .result .size) (c .before .before .before .before .before .before .before .rows-from .ensures) (p .4) (c .before .before .before .put-size .ensures .0) (a .room)
     (worked-fits true (a .room) (putFrom (a .text .now) (a .view .used) (a .at) (a .payload .now) (a .lens .now)) (c .before .before .judge .result) (c .before .before .judge .ensures (putFrom (a .text .now) (a .view .used) (a .at) (a .payload .now) (a .lens .now)) (planned (c .before .before))) (c .enum-told .given .1)) (a .widths .now) (a .pads .now) (p .6) (p .7) (p .8)
 
 sub-rows-from : tie.Need-sub-rows-from
@@ -81,17 +81,17 @@ returns c = let a = c .before .before .before .before .before .before .before .b
 enum-told : tie.Need-enum-told
 enum-told c = search needs
 
-sub-put-rows : tie.Need-sub-put-rows
-sub-put-rows c = search needs
+sub-put-chunks : tie.Need-sub-put-chunks
+sub-put-chunks c = search needs
 
-part-put-rows-start : tie.Need-part-put-rows-start
-part-put-rows-start c = search needs
+part-put-chunks-start : tie.Need-part-put-chunks-start
+part-put-chunks-start c = search needs
 
-part-put-rows-end : tie.Need-part-put-rows-end
-part-put-rows-end c = search needs
+part-put-chunks-end : tie.Need-part-put-chunks-end
+part-put-chunks-end c = search needs
 
-put-rows-requires : tie.Need-put-rows-requires
-put-rows-requires c κs = let a = c .before .before .before .before .before .before .before .before .before .before .before .before .before .before .before .before .before .before .args in let k = roomy (c .before .before .before) in let p = c .before .before .before .before .before .before .before .before .before .before .before .before .before .before .before .before .before .before .pre in rows-asked (a .text .now) (a .view .used) (a .at) (a .payload .now) (a .lens .now) (c .before .before .before .before .before .before .before .before .before .before .rows-from .result) (c .before .before .before .before .before .before .put-size .result) (c .before .before .before .before .before .before .before .before .before .before .rows-from .ensures) (c .before .before .before .before .before .before .before .before .before .before .before .before .before .before .before .before .before .before .pre .4) (c .before .before .before .before .before .before .put-size .ensures) (p .0) (p .2) (p .3) (p .5) (k .0) (k .1) (a .pads .now) (k .3)
+put-chunks-requires : tie.Need-put-chunks-requires
+put-chunks-requires c κs = let a = c .before .before .before .before .before .before .before .before .before .before .before .before .before .before .before .before .before .before .args in let k = roomy (c .before .before .before) in let p = c .before .before .before .before .before .before .before .before .before .before .before .before .before .before .before .before .before .before .pre in chunks-asked (a .text .now) (a .view .used) (a .at) (a .payload .now) (a .lens .now) (c .before .before .before .before .before .before .before .before .before .before .rows-from .result) (c .before .before .before .before .before .before .put-size .result .size) (c .before .before .before .before .before .before .before .before .before .before .rows-from .ensures) (c .before .before .before .before .before .before .before .before .before .before .before .before .before .before .before .before .before .before .pre .4) (c .before .before .before .before .before .before .put-size .ensures .0) (c .before .before .before .before .before .before .put-size .result .start .0) (c .before .before .before .before .before .before .put-size .ensures .1) (c .before .before .before .before .before .before .put-size .result .end .0) (c .before .before .before .before .before .before .put-size .ensures .2) (p .0) (p .2) (p .3) (p .5) (k .0) (k .1) (a .pads .now) (k .3)
 
 sub-fill : tie.Need-sub-fill
 sub-fill c = search needs
@@ -127,7 +127,7 @@ same-length-4 : tie.Need-same-length-4
 same-length-4 c = search needs
 
 returns-2 : tie.Need-returns-2
-returns-2 c = let a = c .before .before .before .before .before .before .before .before .before .before .before .before .before .before .before .before .before .before .before .before .before .before .before .before .before .before .before .before .before .before .before .before .before .before .before .args in λ x f s op e. worked-done true (a .room) (putFrom (a .text .now) (a .view .used) (a .at) (a .payload .now) (a .lens .now)) (c .before .before .before .before .before .before .before .before .before .before .before .before .before .before .before .before .before .before .before .before .before .before .judge .result) (c .before .before .before .before .before .before .before .before .before .before .before .before .before .before .before .before .before .before .before .before .before .before .judge .ensures (putFrom (a .text .now) (a .view .used) (a .at) (a .payload .now) (a .lens .now)) (planned (c .before .before .before .before .before .before .before .before .before .before .before .before .before .before .before .before .before .before .before .before .before .before))) (a .view) (lent (a .text .now) x f s op (a .widths .now) (a .pads .now)) e (c .before .before .before .before .before .before .before .before .before .before .before .before .before .before .before .before .before .before .before .before .enum-told .given .1) _ _ _ _ _ (applied-found (a .text .now) (a .view .used) (a .at) (a .payload .now) (a .lens .now) (c .before .before .before .before .before .before .before .before .before .before .before .before .before .before .before .before .before .before .before .before .before .before .before .before .before .before .before .rows-from .result) (c .before .before .before .before .before .before .before .before .before .before .before .before .before .before .before .before .before .before .before .before .before .before .before .put-size .result) (c .before .before .before .before .before .before .before .before .before .before .before .before .before .before .before .before .before .before .before .before .before .before .before .before .before .before .before .rows-from .ensures) (c .before .before .before .before .before .before .before .before .before .before .before .before .before .before .before .before .before .before .before .before .before .before .before .before .before .before .before .before .before .before .before .before .before .before .before .pre .4) (c .before .before .before .before .before .before .before .before .before .before .before .before .before .before .before .before .before .before .before .before .before .before .before .put-size .ensures) (c .before .before .before .before .before .before .before .before .before .before .before .before .before .before .before .before .put-rows .last .0) (a .pads .now) (c .before .before .before .before .before .before .before .before .before .before .before .before .before .before .before .before .put-rows .last .1 .1 .1 .1 .1 .0) (c .before .before .before .before .before .before .before .before .before .before .fill .last .0) (c .before .before .before .before .before .before .before .before .before .before .before .before .before .before .before .before .put-rows .ensures) (a .view) _ _ (c .before .clamp .ensures) (c .next-view .ensures)) (text-found (a .text .now) (a .view .used) (a .at) (a .payload .now) (a .lens .now) (c .before .before .before .before .before .before .before .before .before .before .before .before .before .before .before .before .before .before .before .before .before .before .before .before .before .before .before .rows-from .result) (c .before .before .before .before .before .before .before .before .before .before .before .before .before .before .before .before .before .before .before .before .before .before .before .put-size .result) (c .before .before .before .before .before .before .before .before .before .before .before .before .before .before .before .before .before .before .before .before .before .before .before .before .before .before .before .rows-from .ensures) (c .before .before .before .before .before .before .before .before .before .before .before .before .before .before .before .before .before .before .before .before .before .before .before .before .before .before .before .before .before .before .before .before .before .before .before .pre .4) (c .before .before .before .before .before .before .before .before .before .before .before .before .before .before .before .before .before .before .before .before .before .before .before .put-size .ensures) (c .before .before .before .before .before .before .before .before .before .before .before .before .before .before .before .before .put-rows .last .0) (a .pads .now) (c .before .before .before .before .before .before .before .before .before .before .before .before .before .before .before .before .put-rows .last .1 .1 .1 .1 .1 .0) (c .before .before .before .before .before .before .before .before .before .before .fill .last .0) (c .before .before .before .before .before .before .before .before .before .before .before .before .before .before .before .before .put-rows .ensures)) (sym (ap (λ (y : List ℕ). over y op) (payload-none (take (a .view .used) (a .text .now)) (a .at) (a .payload .now) (a .lens .now)))) (c .before .before .before .before .before .before .copy-in .ensures ∙ widths-found (take (a .view .used) (a .text .now)) (a .at) (a .payload .now) (a .lens .now) (a .widths .now)) (pads-found (a .text .now) (a .view .used) (a .at) (a .payload .now) (a .lens .now) (c .before .before .before .before .before .before .before .before .before .before .before .before .before .before .before .before .before .before .before .before .before .before .before .before .before .before .before .rows-from .result) (c .before .before .before .before .before .before .before .before .before .before .before .before .before .before .before .before .before .before .before .before .before .before .before .put-size .result) (c .before .before .before .before .before .before .before .before .before .before .before .before .before .before .before .before .before .before .before .before .before .before .before .before .before .before .before .rows-from .ensures) (c .before .before .before .before .before .before .before .before .before .before .before .before .before .before .before .before .before .before .before .before .before .before .before .before .before .before .before .before .before .before .before .before .before .before .before .pre .4) (c .before .before .before .before .before .before .before .before .before .before .before .before .before .before .before .before .before .before .before .before .before .before .before .put-size .ensures) (c .before .before .before .before .before .before .before .before .before .before .before .before .before .before .before .before .put-rows .last .0) (a .pads .now) (c .before .before .before .before .before .before .before .before .before .before .before .before .before .before .before .before .put-rows .last .1 .1 .1 .1 .1 .0) (c .before .before .before .before .before .before .before .before .before .before .fill .last .0) (c .before .before .before .before .before .before .before .before .before .before .before .before .before .before .before .before .put-rows .ensures) (c .before .before .before .before .before .before .before .before .before .before .fill .ensures))
+returns-2 c = let a = c .before .before .before .before .before .before .before .before .before .before .before .before .before .before .before .before .before .before .before .before .before .before .before .before .before .before .before .before .before .before .before .before .before .before .before .args in λ x f s op e. worked-done true (a .room) (putFrom (a .text .now) (a .view .used) (a .at) (a .payload .now) (a .lens .now)) (c .before .before .before .before .before .before .before .before .before .before .before .before .before .before .before .before .before .before .before .before .before .before .judge .result) (c .before .before .before .before .before .before .before .before .before .before .before .before .before .before .before .before .before .before .before .before .before .before .judge .ensures (putFrom (a .text .now) (a .view .used) (a .at) (a .payload .now) (a .lens .now)) (planned (c .before .before .before .before .before .before .before .before .before .before .before .before .before .before .before .before .before .before .before .before .before .before))) (a .view) (lent (a .text .now) x f s op (a .widths .now) (a .pads .now)) e (c .before .before .before .before .before .before .before .before .before .before .before .before .before .before .before .before .before .before .before .before .enum-told .given .1) _ _ _ _ _ (applied-found (a .text .now) (a .view .used) (a .at) (a .payload .now) (a .lens .now) (c .before .before .before .before .before .before .before .before .before .before .before .before .before .before .before .before .before .before .before .before .before .before .before .before .before .before .before .rows-from .result) (c .before .before .before .before .before .before .before .before .before .before .before .before .before .before .before .before .before .before .before .before .before .before .before .put-size .result .size) (c .before .before .before .before .before .before .before .before .before .before .before .before .before .before .before .before .before .before .before .before .before .before .before .before .before .before .before .rows-from .ensures) (c .before .before .before .before .before .before .before .before .before .before .before .before .before .before .before .before .before .before .before .before .before .before .before .before .before .before .before .before .before .before .before .before .before .before .before .pre .4) (c .before .before .before .before .before .before .before .before .before .before .before .before .before .before .before .before .before .before .before .before .before .before .before .put-size .ensures .0) (c .before .before .before .before .before .before .before .before .before .before .before .before .before .before .before .before .put-chunks .last .0) (a .pads .now) (c .before .before .before .before .before .before .before .before .before .before .before .before .before .before .before .before .put-chunks .last .1 .1 .1 .1 .1 .1 .0) (c .before .before .before .before .before .before .before .before .before .before .fill .last .0) (c .before .before .before .before .before .before .before .before .before .before .before .before .before .before .before .before .put-chunks .ensures) (a .view) _ _ (c .before .clamp .ensures) (c .next-view .ensures)) (text-found (a .text .now) (a .view .used) (a .at) (a .payload .now) (a .lens .now) (c .before .before .before .before .before .before .before .before .before .before .before .before .before .before .before .before .before .before .before .before .before .before .before .before .before .before .before .rows-from .result) (c .before .before .before .before .before .before .before .before .before .before .before .before .before .before .before .before .before .before .before .before .before .before .before .put-size .result .size) (c .before .before .before .before .before .before .before .before .before .before .before .before .before .before .before .before .before .before .before .before .before .before .before .before .before .before .before .rows-from .ensures) (c .before .before .before .before .before .before .before .before .before .before .before .before .before .before .before .before .before .before .before .before .before .before .before .before .before .before .before .before .before .before .before .before .before .before .before .pre .4) (c .before .before .before .before .before .before .before .before .before .before .before .before .before .before .before .before .before .before .before .before .before .before .before .put-size .ensures .0) (c .before .before .before .before .before .before .before .before .before .before .before .before .before .before .before .before .put-chunks .last .0) (a .pads .now) (c .before .before .before .before .before .before .before .before .before .before .before .before .before .before .before .before .put-chunks .last .1 .1 .1 .1 .1 .1 .0) (c .before .before .before .before .before .before .before .before .before .before .fill .last .0) (c .before .before .before .before .before .before .before .before .before .before .before .before .before .before .before .before .put-chunks .ensures)) (sym (ap (λ (y : List ℕ). over y op) (payload-none (take (a .view .used) (a .text .now)) (a .at) (a .payload .now) (a .lens .now)))) (c .before .before .before .before .before .before .copy-in .ensures ∙ widths-found (take (a .view .used) (a .text .now)) (a .at) (a .payload .now) (a .lens .now) (a .widths .now)) (pads-found (a .text .now) (a .view .used) (a .at) (a .payload .now) (a .lens .now) (c .before .before .before .before .before .before .before .before .before .before .before .before .before .before .before .before .before .before .before .before .before .before .before .before .before .before .before .rows-from .result) (c .before .before .before .before .before .before .before .before .before .before .before .before .before .before .before .before .before .before .before .before .before .before .before .put-size .result .size) (c .before .before .before .before .before .before .before .before .before .before .before .before .before .before .before .before .before .before .before .before .before .before .before .before .before .before .before .rows-from .ensures) (c .before .before .before .before .before .before .before .before .before .before .before .before .before .before .before .before .before .before .before .before .before .before .before .before .before .before .before .before .before .before .before .before .before .before .before .pre .4) (c .before .before .before .before .before .before .before .before .before .before .before .before .before .before .before .before .before .before .before .before .before .before .before .put-size .ensures .0) (c .before .before .before .before .before .before .before .before .before .before .before .before .before .before .before .before .put-chunks .last .0) (a .pads .now) (c .before .before .before .before .before .before .before .before .before .before .before .before .before .before .before .before .put-chunks .last .1 .1 .1 .1 .1 .1 .0) (c .before .before .before .before .before .before .before .before .before .before .fill .last .0) (c .before .before .before .before .before .before .before .before .before .before .before .before .before .before .before .before .put-chunks .ensures) (c .before .before .before .before .before .before .before .before .before .before .fill .ensures))
 
 pub insert-block-spec : {M : Type 1} → statement M
 insert-block-spec =
@@ -149,10 +149,10 @@ insert-block-spec =
     same-length
     returns
     enum-told
-    sub-put-rows
-    part-put-rows-start
-    part-put-rows-end
-    put-rows-requires
+    sub-put-chunks
+    part-put-chunks-start
+    part-put-chunks-end
+    put-chunks-requires
     sub-fill
     fill-requires
     copy-in-requires

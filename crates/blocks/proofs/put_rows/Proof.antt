@@ -9,7 +9,6 @@ use Rattle.blocks.proofs.put_rows.Reads as reads
 use Rattle.blocks.proofs.put_rows.Lts as lts
 use Rattle.blocks.proofs.put_splice.Reads as put-splice-reads
 use Rattle.splice.proofs.open_padded.Reads as open-padded-reads
-use Rattle.text.proofs.line_to_char.Reads as line-to-char-reads
 
 abbrev Inv-loop : tie.InvT-loop
 Inv-loop text₀ used payload lens pads₀ row col long₀ start₀ from₀ k₀ text pads long start from k = Putting text₀ used row (col .0) payload lens pads₀ text pads long start from k
@@ -17,26 +16,14 @@ Inv-loop text₀ used payload lens pads₀ row col long₀ start₀ from₀ k₀
 abbrev μ-loop : tie.MeasureT-loop
 μ-loop text₀ used payload lens pads₀ row col long₀ start₀ from₀ k₀ text pads long start from k = length lens - k
 
-sub-line-to-char : tie.Need-sub-line-to-char Inv-loop μ-loop
-sub-line-to-char c = search needs
-
-part-line-to-char-start : tie.Need-part-line-to-char-start Inv-loop μ-loop
-part-line-to-char-start c = search needs
-
-part-line-to-char-end : tie.Need-part-line-to-char-end Inv-loop μ-loop
-part-line-to-char-end c = search needs
-
-line-to-char-requires : tie.Need-line-to-char-requires Inv-loop μ-loop
-line-to-char-requires c κs = search needs
-
 loop-holds : tie.Need-loop-holds Inv-loop μ-loop
-loop-holds c = let a = c .before .before .before .before .before .before .before .before .args in putting-none (a .text .now) (a .used) (a .at .row .0) (a .at .col .0) (a .payload .now) (a .lens .now) (a .pads .now) _ (c .before .before .before .before .before .before .before .before .pre .0) (c .before .before .before .before .before .before .before .before .pre .4) (c .line-to-char .ensures)
+loop-holds c = let a = c .before .before .before .before .before .args in putting-none (a .text .now) (a .used) (a .at .row .0) (a .at .col .0) (a .payload .now) (a .lens .now) (a .pads .now) _ (c .before .before .before .before .before .pre .0) (c .before .before .before .before .before .pre .5) (c .before .before .before .before .before .pre .1)
 
-cast-t25 : tie.Need-cast-t25 Inv-loop μ-loop
-cast-t25 c = search needs
+cast-t21 : tie.Need-cast-t21 Inv-loop μ-loop
+cast-t21 c = search needs
 
-add-t26 : tie.Need-add-t26 Inv-loop μ-loop
-add-t26 c = search needs
+add-t22 : tie.Need-add-t22 Inv-loop μ-loop
+add-t22 c = search needs
 
 sub-put-splice : tie.Need-sub-put-splice Inv-loop μ-loop
 sub-put-splice c = search needs
@@ -48,7 +35,7 @@ part-put-splice-end : tie.Need-part-put-splice-end Inv-loop μ-loop
 part-put-splice-end c = search needs
 
 put-splice-requires : tie.Need-put-splice-requires Inv-loop μ-loop
-put-splice-requires c κs = splice-asked (c .before .before .before .loop .inv) (c .before .before .loop-test .taken) (c .before .before .before .before .before .before .before .before .before .before .before .before .pre .3) (c .before .before .before .before .before .before .before .before .before .before .before .before .pre .5) (c .before .before .before .before .before .before .before .before .before .before .before .before .pre .7)
+put-splice-requires c κs = splice-asked (c .before .before .before .loop .inv) (c .before .before .loop-test .taken) (c .before .before .before .before .before .before .before .before .before .pre .4) (c .before .before .before .before .before .before .before .before .before .pre .6) (c .before .before .before .before .before .before .before .before .before .pre .8)
 
 cast-pad : tie.Need-cast-pad Inv-loop μ-loop
 cast-pad c = search needs
@@ -63,7 +50,7 @@ cast-len : tie.Need-cast-len Inv-loop μ-loop
 cast-len c = omega (arith, c .shared-slice-known3 .given (c .before .before .before .before .before .before .loop .k))
 
 add-end : tie.Need-add-end Inv-loop μ-loop
-add-end c = omega (arith, c .shared-slice-known3 .given (c .before .before .before .before .before .before .loop .k), chunk-end (c .before .before .before .before .before .before .loop .inv) (c .before .before .before .before .before .loop-test .taken) (c .before .before .before .before .before .before .before .before .before .before .before .before .before .before .before .pre .3))
+add-end c = omega (arith, c .shared-slice-known3 .given (c .before .before .before .before .before .before .loop .k), chunk-end (c .before .before .before .before .before .before .loop .inv) (c .before .before .before .before .before .loop-test .taken) (c .before .before .before .before .before .before .before .before .before .before .before .before .pre .4))
 
 mul-open-padded : tie.Need-mul-open-padded Inv-loop μ-loop
 mul-open-padded c = search needs
@@ -75,10 +62,10 @@ part-open-padded-start : tie.Need-part-open-padded-start Inv-loop μ-loop
 part-open-padded-start c = search needs
 
 part-open-padded-end : tie.Need-part-open-padded-end Inv-loop μ-loop
-part-open-padded-end c = chunk-end (c .before .before .before .before .before .before .before .loop .inv) (c .before .before .before .before .before .before .loop-test .taken) (c .before .before .before .before .before .before .before .before .before .before .before .before .before .before .before .before .pre .3)
+part-open-padded-end c = chunk-end (c .before .before .before .before .before .before .before .loop .inv) (c .before .before .before .before .before .before .loop-test .taken) (c .before .before .before .before .before .before .before .before .before .before .before .before .before .pre .4)
 
 open-padded-requires : tie.Need-open-padded-requires Inv-loop μ-loop
-open-padded-requires c κs = open-asked (c .before .before .before .before .before .before .before .before .loop .inv) (c .before .before .before .before .before .before .before .loop-test .taken) (c .before .before .before .before .before .before .before .before .before .before .before .before .before .before .before .before .before .pre .3) (c .before .before .before .before .before .before .before .before .before .before .before .before .before .before .before .before .before .pre .5) (c .before .before .before .before .before .before .before .before .before .before .before .before .before .before .before .before .before .pre .7) (c .before .before .before .before .before .before .before .before .before .before .before .before .before .before .before .before .before .pre .6) (c .before .before .before .before .put-splice .result) (c .before .before .before .before .put-splice .ensures)
+open-padded-requires c κs = open-asked (c .before .before .before .before .before .before .before .before .loop .inv) (c .before .before .before .before .before .before .before .loop-test .taken) (c .before .before .before .before .before .before .before .before .before .before .before .before .before .before .pre .4) (c .before .before .before .before .before .before .before .before .before .before .before .before .before .before .pre .6) (c .before .before .before .before .before .before .before .before .before .before .before .before .before .before .pre .8) (c .before .before .before .before .before .before .before .before .before .before .before .before .before .before .pre .7) (c .before .before .before .before .put-splice .result) (c .before .before .before .before .put-splice .ensures)
 
 mul-pads : tie.Need-mul-pads Inv-loop μ-loop
 mul-pads c = search needs
@@ -87,19 +74,19 @@ slice-write-pads : tie.Need-slice-write-pads Inv-loop μ-loop
 slice-write-pads c = search needs
 
 add-long : tie.Need-add-long Inv-loop μ-loop
-add-long c = omega (arith, next-limit (c .before .before .before .before .before .before .before .before .before .before .before .loop .inv) (c .before .before .before .before .before .before .before .before .before .before .loop-test .taken) (c .before .before .before .before .before .before .before .before .before .before .before .before .before .before .before .before .before .before .before .before .pre .3) (c .before .before .before .before .before .before .before .before .before .before .before .before .before .before .before .before .before .before .before .before .pre .5) (c .before .before .before .before .before .before .before .before .before .before .before .before .before .before .before .before .before .before .before .before .pre .7) (c .before .before .before .before .before .before .before .before .before .before .before .before .before .before .before .before .before .before .before .before .pre .6) (c .before .before .before .before .before .before .before .put-splice .result) (c .before .before .before .before .before .before .before .put-splice .ensures), c .before .before .before .before .before .shared-slice-known3 .given (c .before .before .before .before .before .before .before .before .before .before .before .loop .k))
+add-long c = omega (arith, next-limit (c .before .before .before .before .before .before .before .before .before .before .before .loop .inv) (c .before .before .before .before .before .before .before .before .before .before .loop-test .taken) (c .before .before .before .before .before .before .before .before .before .before .before .before .before .before .before .before .before .pre .4) (c .before .before .before .before .before .before .before .before .before .before .before .before .before .before .before .before .before .pre .6) (c .before .before .before .before .before .before .before .before .before .before .before .before .before .before .before .before .before .pre .8) (c .before .before .before .before .before .before .before .before .before .before .before .before .before .before .before .before .before .pre .7) (c .before .before .before .before .before .before .before .put-splice .result) (c .before .before .before .before .before .before .before .put-splice .ensures), c .before .before .before .before .before .shared-slice-known3 .given (c .before .before .before .before .before .before .before .before .before .before .before .loop .k))
 
 add-long-2 : tie.Need-add-long-2 Inv-loop μ-loop
-add-long-2 c = omega (arith, next-limit (c .before .before .before .before .before .before .before .before .before .before .before .loop .inv) (c .before .before .before .before .before .before .before .before .before .before .loop-test .taken) (c .before .before .before .before .before .before .before .before .before .before .before .before .before .before .before .before .before .before .before .before .pre .3) (c .before .before .before .before .before .before .before .before .before .before .before .before .before .before .before .before .before .before .before .before .pre .5) (c .before .before .before .before .before .before .before .before .before .before .before .before .before .before .before .before .before .before .before .before .pre .7) (c .before .before .before .before .before .before .before .before .before .before .before .before .before .before .before .before .before .before .before .before .pre .6) (c .before .before .before .before .before .before .before .put-splice .result) (c .before .before .before .before .before .before .before .put-splice .ensures), c .before .before .before .before .before .shared-slice-known3 .given (c .before .before .before .before .before .before .before .before .before .before .before .loop .k))
+add-long-2 c = omega (arith, next-limit (c .before .before .before .before .before .before .before .before .before .before .before .loop .inv) (c .before .before .before .before .before .before .before .before .before .before .loop-test .taken) (c .before .before .before .before .before .before .before .before .before .before .before .before .before .before .before .before .before .pre .4) (c .before .before .before .before .before .before .before .before .before .before .before .before .before .before .before .before .before .pre .6) (c .before .before .before .before .before .before .before .before .before .before .before .before .before .before .before .before .before .pre .8) (c .before .before .before .before .before .before .before .before .before .before .before .before .before .before .before .before .before .pre .7) (c .before .before .before .before .before .before .before .put-splice .result) (c .before .before .before .before .before .before .before .put-splice .ensures), c .before .before .before .before .before .shared-slice-known3 .given (c .before .before .before .before .before .before .before .before .before .before .before .loop .k))
 
 add-start : tie.Need-add-start Inv-loop μ-loop
-add-start c = omega (arith, start-limit (c .before .before .before .before .before .before .before .before .before .before .before .before .loop .inv) (c .before .before .before .before .before .before .before .before .before .before .before .loop-test .taken) (c .before .before .before .before .before .before .before .before .before .before .before .before .before .before .before .before .before .before .before .before .before .pre .3) (c .before .before .before .before .before .before .before .before .before .before .before .before .before .before .before .before .before .before .before .before .before .pre .5) (c .before .before .before .before .before .before .before .before .before .before .before .before .before .before .before .before .before .before .before .before .before .pre .7) (c .before .before .before .before .before .before .before .before .before .before .before .before .before .before .before .before .before .before .before .before .before .pre .6) (c .before .before .before .before .before .before .before .before .put-splice .result) (c .before .before .before .before .before .before .before .before .put-splice .ensures), c .before .before .before .before .before .before .shared-slice-known3 .given (c .before .before .before .before .before .before .before .before .before .before .before .before .loop .k))
+add-start c = omega (arith, start-limit (c .before .before .before .before .before .before .before .before .before .before .before .before .loop .inv) (c .before .before .before .before .before .before .before .before .before .before .before .loop-test .taken) (c .before .before .before .before .before .before .before .before .before .before .before .before .before .before .before .before .before .before .pre .4) (c .before .before .before .before .before .before .before .before .before .before .before .before .before .before .before .before .before .before .pre .6) (c .before .before .before .before .before .before .before .before .before .before .before .before .before .before .before .before .before .before .pre .8) (c .before .before .before .before .before .before .before .before .before .before .before .before .before .before .before .before .before .before .pre .7) (c .before .before .before .before .before .before .before .before .put-splice .result) (c .before .before .before .before .before .before .before .before .put-splice .ensures), c .before .before .before .before .before .before .shared-slice-known3 .given (c .before .before .before .before .before .before .before .before .before .before .before .before .loop .k))
 
 add-start-2 : tie.Need-add-start-2 Inv-loop μ-loop
-add-start-2 c = omega (arith, start-limit (c .before .before .before .before .before .before .before .before .before .before .before .before .loop .inv) (c .before .before .before .before .before .before .before .before .before .before .before .loop-test .taken) (c .before .before .before .before .before .before .before .before .before .before .before .before .before .before .before .before .before .before .before .before .before .pre .3) (c .before .before .before .before .before .before .before .before .before .before .before .before .before .before .before .before .before .before .before .before .before .pre .5) (c .before .before .before .before .before .before .before .before .before .before .before .before .before .before .before .before .before .before .before .before .before .pre .7) (c .before .before .before .before .before .before .before .before .before .before .before .before .before .before .before .before .before .before .before .before .before .pre .6) (c .before .before .before .before .before .before .before .before .put-splice .result) (c .before .before .before .before .before .before .before .before .put-splice .ensures), c .before .before .before .before .before .before .shared-slice-known3 .given (c .before .before .before .before .before .before .before .before .before .before .before .before .loop .k))
+add-start-2 c = omega (arith, start-limit (c .before .before .before .before .before .before .before .before .before .before .before .before .loop .inv) (c .before .before .before .before .before .before .before .before .before .before .before .loop-test .taken) (c .before .before .before .before .before .before .before .before .before .before .before .before .before .before .before .before .before .before .pre .4) (c .before .before .before .before .before .before .before .before .before .before .before .before .before .before .before .before .before .before .pre .6) (c .before .before .before .before .before .before .before .before .before .before .before .before .before .before .before .before .before .before .pre .8) (c .before .before .before .before .before .before .before .before .before .before .before .before .before .before .before .before .before .before .pre .7) (c .before .before .before .before .before .before .before .before .put-splice .result) (c .before .before .before .before .before .before .before .before .put-splice .ensures), c .before .before .before .before .before .before .shared-slice-known3 .given (c .before .before .before .before .before .before .before .before .before .before .before .before .loop .k))
 
 add-start-3 : tie.Need-add-start-3 Inv-loop μ-loop
-add-start-3 c = omega (arith, start-limit (c .before .before .before .before .before .before .before .before .before .before .before .before .loop .inv) (c .before .before .before .before .before .before .before .before .before .before .before .loop-test .taken) (c .before .before .before .before .before .before .before .before .before .before .before .before .before .before .before .before .before .before .before .before .before .pre .3) (c .before .before .before .before .before .before .before .before .before .before .before .before .before .before .before .before .before .before .before .before .before .pre .5) (c .before .before .before .before .before .before .before .before .before .before .before .before .before .before .before .before .before .before .before .before .before .pre .7) (c .before .before .before .before .before .before .before .before .before .before .before .before .before .before .before .before .before .before .before .before .before .pre .6) (c .before .before .before .before .before .before .before .before .put-splice .result) (c .before .before .before .before .before .before .before .before .put-splice .ensures), c .before .before .before .before .before .before .shared-slice-known3 .given (c .before .before .before .before .before .before .before .before .before .before .before .before .loop .k))
+add-start-3 c = omega (arith, start-limit (c .before .before .before .before .before .before .before .before .before .before .before .before .loop .inv) (c .before .before .before .before .before .before .before .before .before .before .before .loop-test .taken) (c .before .before .before .before .before .before .before .before .before .before .before .before .before .before .before .before .before .before .pre .4) (c .before .before .before .before .before .before .before .before .before .before .before .before .before .before .before .before .before .before .pre .6) (c .before .before .before .before .before .before .before .before .before .before .before .before .before .before .before .before .before .before .pre .8) (c .before .before .before .before .before .before .before .before .before .before .before .before .before .before .before .before .before .before .pre .7) (c .before .before .before .before .before .before .before .before .put-splice .result) (c .before .before .before .before .before .before .before .before .put-splice .ensures), c .before .before .before .before .before .before .shared-slice-known3 .given (c .before .before .before .before .before .before .before .before .before .before .before .before .loop .k))
 
 add-k : tie.Need-add-k Inv-loop μ-loop
 add-k c = search needs
@@ -108,7 +95,7 @@ loop-less : tie.Need-loop-less Inv-loop μ-loop
 loop-less c = search needs
 
 loop-again : tie.Need-loop-again Inv-loop μ-loop
-loop-again c = putting-next (c .before .before .before .before .before .before .before .before .before .before .before .before .loop .inv) (c .before .before .before .before .before .before .before .before .before .before .before .loop-test .taken) (c .before .before .before .before .before .before .before .before .before .before .before .before .before .before .before .before .before .before .before .before .before .pre .3) (c .before .before .before .before .before .before .before .before .before .before .before .before .before .before .before .before .before .before .before .before .before .pre .5) (c .before .before .before .before .before .before .before .before .before .before .before .before .before .before .before .before .before .before .before .before .before .pre .7) (c .before .before .before .before .before .before .before .before .before .before .before .before .before .before .before .before .before .before .before .before .before .pre .6) (c .before .before .before .before .before .before .before .before .put-splice .result) (c .before .before .before .before .before .before .before .before .put-splice .ensures) _ (c .before .before .before .open-padded .ensures) (c .before .before .before .before .before .before .before .before .before .before .before .before .before .before .before .before .before .before .before .before .before .pre .8)
+loop-again c = putting-next (c .before .before .before .before .before .before .before .before .before .before .before .before .loop .inv) (c .before .before .before .before .before .before .before .before .before .before .before .loop-test .taken) (c .before .before .before .before .before .before .before .before .before .before .before .before .before .before .before .before .before .before .pre .4) (c .before .before .before .before .before .before .before .before .before .before .before .before .before .before .before .before .before .before .pre .6) (c .before .before .before .before .before .before .before .before .before .before .before .before .before .before .before .before .before .before .pre .8) (c .before .before .before .before .before .before .before .before .before .before .before .before .before .before .before .before .before .before .pre .7) (c .before .before .before .before .before .before .before .before .put-splice .result) (c .before .before .before .before .before .before .before .before .put-splice .ensures) _ (c .before .before .before .open-padded .ensures) (c .before .before .before .before .before .before .before .before .before .before .before .before .before .before .before .before .before .before .pre .9)
 
 same-length : tie.Need-same-length Inv-loop μ-loop
 same-length c = search needs
@@ -125,13 +112,9 @@ put-rows-spec =
     (tie.spec
     Inv-loop
     μ-loop
-    sub-line-to-char
-    part-line-to-char-start
-    part-line-to-char-end
-    line-to-char-requires
     loop-holds
-    cast-t25
-    add-t26
+    cast-t21
+    add-t22
     sub-put-splice
     part-put-splice-start
     part-put-splice-end
