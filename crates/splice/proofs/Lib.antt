@@ -1,3 +1,4 @@
 pub mod Moves
 pub mod Gaps
 pub mod Overs
+pub mod Rooms

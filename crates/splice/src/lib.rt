@@ -11,7 +11,7 @@ ghost use Rattle.splice.specs.Splice.{gap, gapOpened, gapRemoved, gapClo
 pub const SPACE: u32 = 32;
 
 // Moves the first `count` places up by `by`.
-pub fn shift_up(tail: &mut [u32], count: usize, by: usize)
+fn shift_up(tail: &mut [u32], count: usize, by: usize)
     requires { ⌜ by + count ≤ length (now tail) ⌝ }
     ensures { λ _. ⌜ now (tail .exit) ≡ paste (now (tail .entry)) by (now (tail .entry)) count ⌝ }
 {

@@ -10,3 +10,4 @@ pub mod Walks
 pub mod Changes
 pub mod Turns
 pub mod Order
+pub mod Fronts

@@ -70,11 +70,15 @@ module _ {A : Type 0} (lf : A → Bool) where
   unfoldable pub rowStart : List A → ℕ → ℕ
   rowStart t r = length (unlines (take r (lines lf t)))
 
+  -- where a row ends, before its LF
+  abbrev pub rowEnd : List A → ℕ → ℕ
+  rowEnd t r = rowStart t r + rowLen t r
+
   -- the row of this number, or the last: where it starts, and where it ends
   unfoldable pub span : List A → ℕ → Span
   span t n =
       let r = min n (lastRow t) in
-      record { row = record { 0 = r }; start = charAt (rowStart t r); end = charAt (rowStart t r + rowLen t r) }
+      record { row = record { 0 = r }; start = charAt (rowStart t r); end = charAt (rowEnd t r) }
 
   -- "To clamp: row to the last row, then column to that row's length"
   unfoldable pub clamp : List A → Position → Position
