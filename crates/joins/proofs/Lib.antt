@@ -2,6 +2,7 @@ pub mod Splices
 pub mod JoinRows
 pub mod JoinTurns
 pub mod JoinPlans
+pub mod JoinLocal
 pub mod JoinStores
 pub mod JoinWorks
 pub mod SplitRows
