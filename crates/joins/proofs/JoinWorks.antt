@@ -31,7 +31,8 @@ use Rattle.edit.proofs.Workers.{worked-fits, worked-refused, worked-done}
 use Rattle.joins.specs.declared.JoinPlan.{JoinPlan}
 use Rattle.joins.specs.Turns.{joinPlan, joins, Slices, slices, filled}
 use Rattle.joins.proofs.JoinTurns.{belowOf, below-count, joins-same, joined-joins, joins-small}
-use Rattle.joins.proofs.JoinLocal.{part-last, part-span, part-joins, part-whole}
+use Rattle.joins.proofs.Parts.{part-last, part-span}
+use Rattle.joins.proofs.JoinLocal.{part-joins, part-whole}
 use Rattle.joins.proofs.Splices.{moved-down}
 use Rattle.splice.specs.Splice.{gapRemoved}
 

@@ -121,6 +121,7 @@ pub fn join(
     if let Verdict::Bad(why) = verdict {
         return Answer::Refused(why);
     }
+    // The joins are made in the text up to `end`, so that what stands behind it moves once.
     let end = plan.end.0;
     join_rows(
         &mut text[0..end],
