@@ -68,7 +68,7 @@ part-open-padded-end : tie.Need-part-open-padded-end
 part-open-padded-end c = search needs
 
 open-padded-requires : tie.Need-open-padded-requires
-open-padded-requires c κs = let s = c .before .before .before .before .before .before .before .before .before .before .before .before .before .before .before .before in let a = s .args in let q = split-sizes (a .text .now) (a .view .used) (a .row) (a .cols .now) (a .flags .now) (c .before .before .before .before .before .before .before .before .before .before .find-row .result) (c .before .before .before .before .before .before .before .before .before .before .find-row .ensures) (c .before .before .before .before .before .before .before .split-plan .result) (c .before .before .before .before .before .before .before .split-plan .ensures) (a .view) (a .room) (c .before .before .before .before .before .judge .result) (c .before .before .before .before .before .judge .ensures) (c .before .before .before .enum-told .given .1) (s .pre .3) (s .pre .0) in (q .0, omega arith)
+open-padded-requires c κs = let s = c .before .before .before .before .before .before .before .before .before .before .before .before .before .before .before .before in let a = s .args in let q = split-sizes (a .text .now) (a .view .used) (a .row) (a .cols .now) (a .flags .now) (c .before .before .before .before .before .before .before .before .before .before .find-row .result) (c .before .before .before .before .before .before .before .before .before .before .find-row .ensures) (c .before .before .before .before .before .before .before .split-plan .result) (c .before .before .before .before .before .before .before .split-plan .ensures) (a .view) (a .room) (c .before .before .before .before .before .judge .result) (c .before .before .before .before .before .judge .ensures) (c .before .before .before .enum-told .given .1) (s .pre .3) (s .pre .0) in (omega arith, omega arith)
 
 add-until : tie.Need-add-until
 add-until c = let s = c .before .before .before .before .before .before .before .before .before .before .before .before .before .before .before .before .before .before .before in let a = s .args in omega (arith, split-sizes (a .text .now) (a .view .used) (a .row) (a .cols .now) (a .flags .now) (c .before .before .before .before .before .before .before .before .before .before .before .before .before .find-row .result) (c .before .before .before .before .before .before .before .before .before .before .before .before .before .find-row .ensures) (c .before .before .before .before .before .before .before .before .before .before .split-plan .result) (c .before .before .before .before .before .before .before .before .before .before .split-plan .ensures) (a .view) (a .room) (c .before .before .before .before .before .before .before .before .judge .result) (c .before .before .before .before .before .before .before .before .judge .ensures) (c .before .before .before .before .before .before .enum-told .given .1) (s .pre .3) (s .pre .0))
