@@ -3,7 +3,7 @@ use mathlib.Core.Path.{_≡_, refl, sym, ap, _∙_}
 use mathlib.Core.Bool.{Bool, true, false, _&&_, _||_}
 use mathlib.Core.List.{List, [], _∷_, _++_, append-assoc}
 use mathlib.Core.Logic.{_⊎_, inl, inr, ⊎-elim}
-use Prim.Native.Nat.{ℕ, suc, _+_, _-_, _≤_, _<_, max}
+use Prim.Native.Nat.{ℕ, suc, _+_, _-_, _≤_, _<_, min, max}
 use native.Mathlib.Omega.{arith}
 use native.Mathlib.Numerals.{add-one}
 use native.Mathlib.Decide.{decLe}
@@ -13,17 +13,17 @@ use lib.Dec.{ltb, eqb}
 use lib.ListN.{length, take, drop, getD, length-drop, drop-of-length-le}
 use lib.Seq.{drop-cons, drop-drop, drop-append-add, drop-append-seam}
 use Rattle.text.specs.declared.Span.{Span}
-use Rattle.text.specs.Rows.{Line, line, lines, unlines, lastRow, rowLen, rowStart, span}
+use Rattle.text.specs.Rows.{Line, line, lines, unlines, lastRow, rowLen, rowStart, span, charAt}
 use Rattle.text.specs.Text.{isLF}
+use Rattle.text.proofs.Spots.{row-within}
 use Rattle.text.proofs.Ended.{Ended, ended-at, ended-last, first-len}
 use Rattle.text.proofs.Changes.{rowOf, rows-below, text-around}
 use Rattle.edit.specs.Edits.{gap, joinRow, joined}
 use Rattle.edit.specs.Refusals.{isSpace, spaces}
-use Rattle.edit.specs.Call.{planOf}
 use Rattle.joins.specs.declared.JoinTurn.{JoinTurn}
-use Rattle.joins.specs.Turns.{joinTurn, joins}
+use Rattle.joins.specs.Turns.{joinTurn, joinPlan, joins}
 use Rattle.text.proofs.Walks.{span-parts}
-use Rattle.joins.proofs.JoinTurns.{belowOf, rowTo, afterOf, turn, turn-size, row-size, turn-gap, turn-small, joins-none, Starts, joins-same, joined-joins, joins-cols, joins-flags, joins-payload}
+use Rattle.joins.proofs.JoinTurns.{belowOf, rowTo, afterOf, row-at, below-count, turn, turn-size, row-size, turn-gap, turn-small, joins-none, Starts, joins-same, joined-joins, joins-cols, joins-flags, joins-payload}
 
 -- what stands from offset `at` on, after k rows below row r
 abbrev pub Walked : List ℕ → ℕ → ℕ → ℕ → Type 0
@@ -68,6 +68,20 @@ module _ (t : List ℕ) (r : ℕ) (h : r ≤ lastRow isLF t) where
       walked-more =
           let y = getD (belowOf t r) k (line [] []) in
           sym (drop-drop (length (y .body)) (at + 1) t) ∙ ap (drop (length (y .body))) walked-past ∙ drop-append-seam (y .body) (y .after ++ unlines (drop (suc k) (belowOf t r)))
+
+-- the walk is where row r + k ends
+pub walked-row : (t : List ℕ) (r k : ℕ) → r + k ≤ lastRow isLF t → Walked t r k (rowStart isLF t (r + k) + rowLen isLF t (r + k))
+walked-row t r k h =
+    let n : suc r + k ≡ suc (r + k) = omega arith in
+    let d : drop k (belowOf t r) ≡ belowOf t (r + k) = drop-drop k (suc r) (lines isLF t) ∙ rw n in
+    walked-none t (r + k) h ∙ sym (ap (λ (y : Line ℕ). y .after ++ unlines (drop k (belowOf t r))) (row-at t r k (omega arith)) ∙ rw d)
+
+-- and nowhere else
+walked-end : (t : List ℕ) (r k at : ℕ) → r + k ≤ lastRow isLF t → at ≤ length t → Walked t r k at → at ≡ rowStart isLF t (r + k) + rowLen isLF t (r + k)
+walked-end t r k at h l w =
+    let e : ℕ = rowStart isLF t (r + k) + rowLen isLF t (r + k) in
+    let q : drop at t ≡ drop e t = w ∙ sym (walked-row t r k h) in
+    omega (arith, row-within isLF t (r + k), length-drop at t, length-drop e t, ap length q)
 
 pub record Planned (t : List ℕ) (r : ℕ) (b : Bool) (m used at left k : ℕ) : Type 0 where
   pub few : k ≤ length (belowOf t r)
@@ -158,10 +172,13 @@ module _ (t : List ℕ) (r : ℕ) (b : Bool) (count used at left k : ℕ) (h : r
       ended-here : length t ≤ at → (length (belowOf t r) ≤ k) ⊎ (max count 1 ≤ k)
       ended-here l = elim (decLe (length (belowOf t r)) k) [ yes q ↦ inl q | no q ↦ absurd (omega (arith, walked-within t r h k at (p .walked) (omega arith))) ]
 
-  pub planned-all : record { used = used; payload = 0; first = k; second = k } ≡ planOf (joined isLF isSpace spaces t r count b)
-  planned-all =
+  pub planned-all : at ≤ length t → record { end = charAt at; sizes = record { used = used; payload = 0; first = k; second = k } } ≡ joinPlan t r count b
+  unfolding span
+  planned-all l =
       let u = p .used-is in
-      rw (plan-all, joins-cols t r b k (p .few), joins-flags t r b k (p .few), joins-payload t r b k, u)
+      let m : r + k ≤ lastRow isLF t = omega (arith, p .few, below-count t r) in
+      let n : min (r + k) (lastRow isLF t) ≡ r + k = omega arith in
+      rw (plan-all, joins-cols t r b k (p .few), joins-flags t r b k (p .few), joins-payload t r b k, u, n, ← walked-end t r k at m l (p .walked))
 
 pub starts-at : (t : List ℕ) (f : Span) → f ≡ span isLF t (f .row .0) → Starts t (f .row .0) (f .end .0) (f .end .0 - f .start .0)
 starts-at t f e = let q = span-parts t f e in record { within = q .0; ends = q .2; long = omega arith }
@@ -176,6 +193,6 @@ module _ (t : List ℕ) (count : ℕ) (b : Bool) (end len used at left k : ℕ) 
         let s = starts-at t f h in
         plan-sizes t (f .row .0) b (max count 1) used at left k (s .within) (p (f .row .0) (rw (x, y) s)) i j q
 
-  pub planning-all : (f : Span) → f ≡ span isLF t (f .row .0) → end ≡ f .end .0 → len ≡ f .end .0 - f .start .0 → goesOn at (length t) k count ≡ false
-      → record { used = used; payload = 0; first = k; second = k } ≡ planOf (joined isLF isSpace spaces t (f .row .0) count b)
+  pub planning-all : (f : Span) → f ≡ span isLF t (f .row .0) → end ≡ f .end .0 → len ≡ f .end .0 - f .start .0 → goesOn at (length t) k count ≡ false → at ≤ length t
+      → record { end = charAt at; sizes = record { used = used; payload = 0; first = k; second = k } } ≡ joinPlan t (f .row .0) count b
   planning-all f h x y e = let s = starts-at t f h in planned-all t (f .row .0) b count used at left k (s .within) (p (f .row .0) (rw (x, y) s)) e

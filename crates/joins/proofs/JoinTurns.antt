@@ -3,15 +3,15 @@ use mathlib.Core.Path.{_≡_, refl, sym, ap, _∙_}
 use mathlib.Core.Bool.{Bool}
 use mathlib.Core.List.{List, [], _∷_, _++_}
 use mathlib.Core.Logic.{_⊎_, inl, inr}
-use Prim.Native.Nat.{ℕ, suc, _+_, _-_, _≤_, _<_, min, max}
+use Prim.Native.Nat.{ℕ, zero, suc, _+_, _-_, _≤_, _<_, min, max}
 use native.Mathlib.Omega.{arith}
 use lib.ListN.{length, take, drop, getD, length-append, length-take, length-drop, drop-of-length-le}
-use lib.Seq.{take-suc, drop-cons, take-all, length-take-le}
+use lib.Seq.{take-suc, drop-cons, getD-drop, take-all, length-take-le}
 use Rattle.text.specs.Rows.{Line, line, lines, unlines, rowCount, lastRow, rowLen, rowStart, spliced}
 use Rattle.text.specs.Text.{isLF}
 use Rattle.text.proofs.Laws.{unlines-lines, len-le}
 use Rattle.text.proofs.Ended.{Ended}
-use Rattle.text.proofs.Changes.{rowOf, rows-around, rows-below}
+use Rattle.text.proofs.Changes.{rowOf, row-from, rows-around, rows-below}
 use Rattle.edit.specs.Edits.{gap, joinNext, joinRow, joined}
 use Rattle.edit.specs.Refusals.{isSpace, spaces}
 use Rattle.edit.proofs.Joins.{join-ended, joinCols-length, joinFlags-length, joinRow-snoc, joinCols-snoc, joinFlags-snoc}
@@ -32,6 +32,9 @@ rowTo t r b k = joinRow 32 b (rowOf t r) (take k (belowOf t r))
 -- what ended row k of row r and those below, in the text at first
 abbrev pub afterOf : List ℕ → ℕ → ℕ → List ℕ
 afterOf t r k = getD (rowOf t r ∷ belowOf t r) k (line [] []) .after
+
+pub row-at : (t : List ℕ) (r k : ℕ) → r ≤ lastRow isLF t → getD (rowOf t r ∷ belowOf t r) k (line [] []) ≡ rowOf t (r + k)
+row-at t r k h = rw (← row-from t r h) (getD-drop r (lines isLF t) k (line [] []))
 
 pub below-count : (t : List ℕ) (r : ℕ) → length (belowOf t r) ≡ lastRow isLF t - r
 unfolding lastRow rowCount
@@ -111,6 +114,14 @@ turn-small t e left b j q =
 pub joins-none : (t : List ℕ) (r : ℕ) (b : Bool) → r ≤ lastRow isLF t → joins t r b 0 .text ≡ t
 unfolding joins joinRow
 joins-none t r b h = ap unlines (sym (rows-around t r h)) ∙ unlines-lines isLF t
+
+-- joins make no text longer
+pub joins-small : (t : List ℕ) (r : ℕ) (b : Bool) (k : ℕ) → r ≤ lastRow isLF t → k ≤ length (belowOf t r) → length (joins t r b k .text) ≤ length t
+joins-small t r b zero h l = omega (arith, ap length (joins-none t r b h))
+joins-small t r b (suc k) h l =
+    let y = getD (belowOf t r) k (line [] []) in
+    let z = rowTo t r b k in
+    omega (arith, joins-small t r b k h (omega arith), turn-size t r h b k l, gap-length b (z .body) (y .body), gap-one b (length (z .body)) (length (y .body)))
 
 -- row r begins the walk
 pub record Starts (t : List ℕ) (r end len : ℕ) : Type 0 where

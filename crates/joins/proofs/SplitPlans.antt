@@ -19,7 +19,7 @@ use Rattle.joins.specs.declared.SplitTurn.{SplitTurn}
 use Rattle.joins.specs.declared.SplitPlan.{SplitPlan}
 use Rattle.joins.specs.Turns.{splitTurn}
 use Rattle.joins.proofs.SplitRows.{least, least-le}
-use Rattle.joins.proofs.SplitTurns.{splitTo, leftTo, split-none, first-slice, Spans, within-more, turn-at, turn-one, turn-size, spans-at}
+use Rattle.joins.proofs.SplitTurns.{splitTo, leftTo, splits-none, first-slice, Spans, within-more, turn-at, turn-one, turn-size, spans-at}
 
 pub record Counted (t : List ℕ) (r : ℕ) (cs fs : List ℕ) (within : Bool) (used end k : ℕ) : Type 0 where
   pub within-is : within ≡ withinAll (rowOf t r) (drop k cs) (drop k fs)
@@ -33,7 +33,7 @@ pub counting-none : (t cs fs : List ℕ) (start end : ℕ) → Counting t cs fs 
 unfolding withinAll least
 counting-none t cs fs start end r s = record {
   within-is = rw (drop-length cs);
-  used-is = sym (ap length (ap (λ (d : List ℕ). split isLF isSpace spaces t r d (drop (length cs) fs) .text) (drop-length cs) ∙ split-none t r (s .within) (drop (length cs) fs)));
+  used-is = sym (ap length (splits-none t r (s .within) cs fs));
   end-is = rw (drop-length cs) (s .ends);
 }
 

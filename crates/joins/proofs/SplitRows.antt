@@ -52,7 +52,7 @@ unspace-rest z c f = unspace-drop f (drop c z) .0 ∙ drop-drop (goneAt z c f) c
 
 -- ---- a split of the first of some rows
 
-split-body : (z : Line ℕ) (zs : List (Line ℕ)) (c f : ℕ)
+pub split-body : (z : Line ℕ) (zs : List (Line ℕ)) (c f : ℕ)
     → unlines (splitFirst isLF isSpace spaces c f (z ∷ zs)) ≡ spliced (unlines (z ∷ zs)) (min c (length (z .body))) (min c (length (z .body)) + goneAt (z .body) c f) (10 ∷ [])
 unfolding splitFirst unlines
 split-body z zs c f =

@@ -17,7 +17,7 @@ use Rattle.joins.specs.declared.SplitTurn.{SplitTurn}
 use Rattle.joins.specs.Turns.{splitTurn}
 use Rattle.joins.proofs.Splices.{replacedIn, turned}
 use Rattle.joins.proofs.SplitRows.{least}
-use Rattle.joins.proofs.SplitTurns.{splitTo, leftTo, split-none, now-slice, Spans, turn-at, turn-text, turn-one, turn-size, splits-grow, spans-at}
+use Rattle.joins.proofs.SplitTurns.{splitTo, leftTo, splits-none, now-slice, Spans, turn-at, turn-text, turn-one, turn-size, splits-grow, spans-at}
 
 pub record Put (text₀ : List ℕ) (used r : ℕ) (cs fs : List ℕ) (text : List ℕ) (n end k : ℕ) : Type 0 where
   pub text-is : text ≡ renewed text₀ used (splitTo (take used text₀) r cs fs k)
@@ -31,7 +31,7 @@ pub putting-none : (text cs fs : List ℕ) (used start end : ℕ) → used ≤ l
 unfolding least
 putting-none text cs fs used start end h r s room =
     let t = take used text in
-    let z : splitTo t r cs fs (length cs) ≡ t = ap (λ (d : List ℕ). split isLF isSpace spaces t r d (drop (length cs) fs) .text) (drop-length cs) ∙ split-none t r (s .within) (drop (length cs) fs) in
+    let z : splitTo t r cs fs (length cs) ≡ t = splits-none t r (s .within) cs fs in
     record {
       text-is = rw z (renewed-same text used h);
       n-is = sym (ap length z ∙ length-take-le used text h);

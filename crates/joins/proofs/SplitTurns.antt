@@ -8,7 +8,7 @@ use native.Mathlib.Numerals.{add-one}
 use native.Mathlib.Omega.{arith}
 use lib.Dec.{eqb, leb}
 use lib.ListN.{length, take, drop, getD, length-append, length-take, length-drop}
-use lib.Seq.{slice, length-slice, drop-cons, drop-drop, getD-drop, take-take, take-append-le, take-append-add, drop-append-seam, length-take-le}
+use lib.Seq.{slice, length-slice, drop-cons, drop-drop, drop-length, getD-drop, take-take, take-append-le, take-append-add, drop-append-seam, length-take-le}
 use Rattle.text.specs.declared.Span.{Span}
 use Rattle.text.specs.Rows.{Line, line, lines, unlines, lastRow, rowLen, rowStart, span, spliced}
 use Rattle.text.specs.Text.{isLF}
@@ -55,11 +55,11 @@ module _ (t : List ℕ) (r : ℕ) (h : r ≤ lastRow isLF t) where
   abbrev B : List (Line ℕ)
   B = drop (suc r) (lines isLF t)
 
-  split-text : (cs fs : List ℕ) → split isLF isSpace spaces t r cs fs .text ≡ unlines (A ++ (splitRow isLF isSpace spaces x cs fs ++ B))
+  pub split-text : (cs fs : List ℕ) → split isLF isSpace spaces t r cs fs .text ≡ unlines (A ++ (splitRow isLF isSpace spaces x cs fs ++ B))
   unfolding split
   split-text cs fs = let m : min r (lastRow isLF t) ≡ r = omega arith in rw m
 
-  pub split-none : (fs : List ℕ) → split isLF isSpace spaces t r [] fs .text ≡ t
+  split-none : (fs : List ℕ) → split isLF isSpace spaces t r [] fs .text ≡ t
   unfolding splitRow
   split-none fs = split-text [] fs ∙ ap unlines (sym (rows-around t r h)) ∙ unlines-lines isLF t
 
@@ -173,6 +173,10 @@ module _ (t : List ℕ) (r : ℕ) (h : r ≤ lastRow isLF t) (cs fs : List ℕ) 
 
     pub turn-size : length (splitTo t r cs fs j) + y .gone ≡ length (splitTo t r cs fs (suc j)) + 1
     turn-size = omega (arith, ap length text-now, ap length text-before, size-is t r h (getD cs j 0) (drop (suc j) cs) (drop j fs) u q y turn-now)
+
+-- before the first turn
+pub splits-none : (t : List ℕ) (r : ℕ) → r ≤ lastRow isLF t → (cs fs : List ℕ) → splitTo t r cs fs (length cs) ≡ t
+splits-none t r h cs fs = ap (λ (d : List ℕ). split isLF isSpace spaces t r d (drop (length cs) fs) .text) (drop-length cs) ∙ split-none t r h (drop (length cs) fs)
 
 -- the text grows with each turn
 pub splits-grow : (t : List ℕ) (r : ℕ) → r ≤ lastRow isLF t → (cs fs : List ℕ) (k : ℕ) → k ≤ length cs → length (splitTo t r cs fs k) ≤ length (split isLF isSpace spaces t r cs fs .text)

@@ -6,11 +6,13 @@ use lib.Dec.{ltb}
 use lib.ListN.{length, take, drop, getD}
 use lib.Seq.{slice}
 use Rattle.promise.specs.Slices.{over}
-use Rattle.text.specs.Rows.{line, lines, rowLen, charAt, at}
+use Rattle.text.specs.Rows.{line, lines, rowLen, span, charAt, at}
 use Rattle.text.specs.Text.{isLF, renewed}
 use Rattle.edit.specs.declared.Edit.the-variants.{SplitLines}
-use Rattle.edit.specs.Edits.{Edited, edited, whole, rowAt, fromRow, joinRow, joinCols, joinFlags, unspace}
+use Rattle.edit.specs.Edits.{Edited, edited, whole, rowAt, fromRow, joinRow, joinCols, joinFlags, joined, unspace}
 use Rattle.edit.specs.Refusals.{isSpace, spaces}
+use Rattle.edit.specs.Call.{planOf}
+use Rattle.joins.specs.declared.JoinPlan.{JoinPlan}
 use Rattle.joins.specs.declared.JoinTurn.{JoinTurn}
 use Rattle.joins.specs.declared.SplitTurn.{SplitTurn}
 
@@ -23,6 +25,10 @@ gapLen b m n = cond (b && ltb 0 m && ltb 0 n) 1 0
 -- the join of a row of `left` characters, whose LF stands at offset e, with the row behind it
 abbrev pub joinTurn : List ℕ → ℕ → ℕ → Bool → JoinTurn
 joinTurn t e left b = let n = rowLen isLF (drop (e + 1) t) 0 in record { gap = gapLen b left n; len = n }
+
+-- where the last row ends that is joined to row r, and what rows 8 and 9 are about
+abbrev pub joinPlan : List ℕ → ℕ → ℕ → Bool → JoinPlan
+joinPlan t r count b = let d = joined isLF isSpace spaces t r count b in record { end = span isLF t (r + length (d .inverse .first)) .end; sizes = planOf d }
 
 -- so many joins of row r with the rows below it, where there are so many
 unfoldable pub joins : List ℕ → ℕ → Bool → ℕ → Edited ℕ

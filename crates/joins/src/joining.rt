@@ -1,4 +1,5 @@
 // Joins of a row with the rows below it.
+use crate::JoinPlan;
 use crate::JoinTurn;
 use crate::replace;
 use edit::Answer;
@@ -23,8 +24,8 @@ ghost use Rattle.text.specs.Rows.{lastRow, span};
 ghost use Rattle.text.specs.Text.{isLF, textLimit};
 ghost use Rattle.edit.specs.Edits.{joined};
 ghost use Rattle.edit.specs.Refusals.{isSpace, spaces};
-ghost use Rattle.edit.specs.Call.{paperAnswer, planOf, lent, roomOf, outcome, finished};
-ghost use Rattle.joins.specs.Turns.{joinTurn, joins, slices, filled};
+ghost use Rattle.edit.specs.Call.{paperAnswer, lent, roomOf, outcome, finished};
+ghost use Rattle.joins.specs.Turns.{joinTurn, joinPlan, joins, slices, filled};
 
 // The join of a row of `left` characters, whose LF stands at `at`, with the next row.
 pub fn join_turn(text: &[u32], at: CharOffset, left: usize, spaced: bool) -> JoinTurn
@@ -39,10 +40,10 @@ pub fn join_turn(text: &[u32], at: CharOffset, left: usize, spaced: bool) -> Joi
     JoinTurn { gap: 0, len }
 }
 
-// How many joins there will be, and how long the text then is.
-fn join_plan(text: &[u32], found: Span, count: u32, spaced: bool) -> Plan
+// How many joins there will be, where the last row for them ends, and how long the text then is.
+fn join_plan(text: &[u32], found: Span, count: u32, spaced: bool) -> JoinPlan
     requires { ⌜ (length (now text) ≤ textLimit) × (found ≡ span isLF (now text) (found .row .0)) ⌝ }
-    ensures { λ r. ⌜ r ≡ planOf (joined isLF isSpace spaces (now (text .entry)) (found .row .0) count spaced) ⌝ }
+    ensures { λ r. ⌜ r ≡ joinPlan (now (text .entry)) (found .row .0) count spaced ⌝ }
 {
     let mut used = text.len();
     let mut at = found.end.0;
@@ -55,11 +56,15 @@ fn join_plan(text: &[u32], found: Span, count: u32, spaced: bool) -> Plan
         left = left + turn.gap + turn.len;
         made += 1;
     }
-    Plan {
+    let sizes = Plan {
         used,
         payload: 0,
         first: made as usize,
         second: made as usize,
+    };
+    JoinPlan {
+        end: CharOffset(at),
+        sizes,
     }
 }
 
@@ -111,19 +116,33 @@ pub fn join(
     let used = view.used;
     let found = text::find_row(&text[0..used], row);
     let plan = join_plan(&text[0..used], found, count, spaced);
-    let verdict = plan::judge(true, room, plan);
+    let sizes = plan.sizes;
+    let verdict = plan::judge(true, room, sizes);
     if let Verdict::Bad(why) = verdict {
         return Answer::Refused(why);
     }
-    join_rows(text, used, found, plan.first, spaced, cols, flags);
+    // The joins are made in the text up to `end`, so that what stands behind it moves once.
+    let end = plan.end.0;
+    join_rows(
+        &mut text[0..end],
+        end,
+        found,
+        sizes.first,
+        spaced,
+        cols,
+        flags,
+    );
+    let gone = used - sizes.used;
+    let kept = end - gone;
+    splice::remove(text, used, CharOffset(kept), CharOffset(end));
     let at = found.row;
     let col = Col(0);
-    let next = plan::next_view(view, plan.used, Position { row: at, col });
+    let next = plan::next_view(view, sizes.used, Position { row: at, col });
     Answer::Done(Applied {
         view: next,
         inverse: Edit::SplitLines { row: at },
         payload: 0,
-        first: plan.first,
-        second: plan.second,
+        first: sizes.first,
+        second: sizes.second,
     })
 }

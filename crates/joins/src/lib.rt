@@ -19,6 +19,12 @@ pub struct JoinTurn {
     pub len: usize,
 }
 
+// Where the last row that is joined ends, and what rows 8 and 9 are about.
+struct JoinPlan {
+    end: CharOffset,
+    sizes: Plan,
+}
+
 // Where a split puts its LF, and how many characters go there.
 struct SplitTurn {
     at: CharOffset,

@@ -139,7 +139,12 @@ pub fn split(
     if let Verdict::Bad(why) = verdict {
         return Answer::Refused(why);
     }
-    split_row(text, used, found, cols, flags);
+    // The row is split in room that is opened behind it, so that the text from there on moves once.
+    let end = found.end.0;
+    let more = sizes.used - used;
+    splice::open_padded(text, used, CharOffset(end), more, &cols[0..0]);
+    let until = end + more;
+    split_row(&mut text[0..until], end, found, cols, flags);
     let at = found.row;
     let col = Col(0);
     let next = plan::next_view(view, sizes.used, Position { row: at, col });

@@ -1,4 +1,4 @@
-use Rattle.joins.proofs.JoinWorks.{join-refused, join-count, join-room, join-done}
+use Rattle.joins.proofs.JoinWorks.{join-refused, join-room, end-within, part-found, part-count, kept-sizes, join-moved, join-done}
 use Rattle.text.proofs.Walks.{found-again}
 use Rattle.text.proofs.Texts.{front}
 use lib.ListN.{length-take, length-drop}
@@ -49,14 +49,32 @@ same-length : tie.Need-same-length
 same-length c = search needs
 
 returns : tie.Need-returns
-returns c = let a = c .before .before .before .before .before .before .before .before .before .before .before .before .before .args in λ x f s op e. join-refused (a .text .now) (a .view .used) (a .row .0) (a .count) (a .spaced) (c .before .before .before .before .before .before .before .find-row .result) (c .before .before .before .before .before .before .before .find-row .ensures) (c .before .before .before .before .join-plan .result) (c .before .before .before .before .join-plan .ensures) (a .view) (a .room) (c .before .before .before .judge .result) (c .before .before .before .judge .ensures) _ (c .before .verdict .given .1) x f s op (a .cols .now) (a .flags .now) e
+returns c = let a = c .before .before .before .before .before .before .before .before .before .before .before .before .before .before .args in λ x f s op e. join-refused (a .text .now) (a .view .used) (a .row .0) (a .count) (a .spaced) (c .before .before .before .before .before .before .before .before .find-row .result) (c .before .before .before .before .before .before .before .before .find-row .ensures) (c .before .before .before .before .before .join-plan .result) (c .before .before .before .before .before .join-plan .ensures) (a .view) (a .room) (c .before .before .before .judge .result) (c .before .before .before .judge .ensures) _ (c .before .verdict .given .1) x f s op (a .cols .now) (a .flags .now) e
 
 enum-told : tie.Need-enum-told
 enum-told c = search needs
 
+sub-join-rows : tie.Need-sub-join-rows
+sub-join-rows c = search needs
+
+part-join-rows-start : tie.Need-part-join-rows-start
+part-join-rows-start c = search needs
+
+part-join-rows-end : tie.Need-part-join-rows-end
+part-join-rows-end c = let s = c .before .before .before .before .before .before .before .before .before .before .before .before .before in let a = s .args in omega (arith, end-within (a .text .now) (a .view .used) (a .row .0) (a .count) (a .spaced) (c .before .before .before .before .before .before .before .find-row .result) (c .before .before .before .before .before .before .before .find-row .ensures) (c .before .before .before .before .join-plan .result) (c .before .before .before .before .join-plan .ensures) (s .pre .0))
+
 join-rows-requires : tie.Need-join-rows-requires
-join-rows-requires c κs = let s = c .before .before .before .before .before .before .before .before .before .before .before .before .before .before .before in let a = s .args in let q = join-room (a .text .now) (a .view .used) (a .row .0) (a .count) (a .spaced) (c .before .before .before .before .before .before .before .before .before .find-row .result) (c .before .before .before .before .before .before .before .before .before .find-row .ensures) (c .before .before .before .before .before .before .join-plan .result) (c .before .before .before .before .before .before .join-plan .ensures) (a .view) refl (a .room) (c .before .before .before .before .before .judge .result) (c .before .before .before .before .before .judge .ensures) (c .before .before .before .enum-told .given .1) in
-    (s .pre .0, s .pre .1, found-again (a .text .now) (a .view .used) (a .row .0) (c .before .before .before .before .before .before .before .before .before .find-row .result) (c .before .before .before .before .before .before .before .before .before .find-row .ensures), join-count (a .text .now) (a .view .used) (a .row .0) (a .count) (a .spaced) (c .before .before .before .before .before .before .before .before .before .find-row .result) (c .before .before .before .before .before .before .before .before .before .find-row .ensures) (c .before .before .before .before .before .before .join-plan .result) (c .before .before .before .before .before .before .join-plan .ensures), omega (arith, q .0, s .pre .2), omega (arith, q .1, s .pre .3))
+join-rows-requires c κs = let s = c .before .before .before .before .before .before .before .before .before .before .before .before .before .before .before .before in let a = s .args in let q = join-room (a .text .now) (a .view .used) (a .row .0) (a .count) (a .spaced) (c .before .before .before .before .before .before .before .before .before .before .find-row .result) (c .before .before .before .before .before .before .before .before .before .before .find-row .ensures) (c .before .before .before .before .before .before .before .join-plan .result) (c .before .before .before .before .before .before .before .join-plan .ensures) (a .view) refl (a .room) (c .before .before .before .before .before .judge .result) (c .before .before .before .before .before .judge .ensures) (c .before .before .before .enum-told .given .1) in let w = end-within (a .text .now) (a .view .used) (a .row .0) (a .count) (a .spaced) (c .before .before .before .before .before .before .before .before .before .before .find-row .result) (c .before .before .before .before .before .before .before .before .before .before .find-row .ensures) (c .before .before .before .before .before .before .before .join-plan .result) (c .before .before .before .before .before .before .before .join-plan .ensures) (s .pre .0) in
+    (simp (length-take, length-drop) (omega arith), omega arith, part-found (a .text .now) (a .view .used) (a .row .0) (a .count) (a .spaced) (c .before .before .before .before .before .before .before .before .before .before .find-row .result) (c .before .before .before .before .before .before .before .before .before .before .find-row .ensures) (c .before .before .before .before .before .before .before .join-plan .result) (c .before .before .before .before .before .before .before .join-plan .ensures) (s .pre .0), part-count (a .text .now) (a .view .used) (a .row .0) (a .count) (a .spaced) (c .before .before .before .before .before .before .before .before .before .before .find-row .result) (c .before .before .before .before .before .before .before .before .before .before .find-row .ensures) (c .before .before .before .before .before .before .before .join-plan .result) (c .before .before .before .before .before .before .before .join-plan .ensures) (s .pre .0), omega (arith, q .0, s .pre .2), omega (arith, q .1, s .pre .3))
+
+sub-gone : tie.Need-sub-gone
+sub-gone c = let s = c .before .before .before .before .before .before .before .before .before .before .before .before .before .before .before .before .before .before .before .before .before .before .before .before in let a = s .args in omega (arith, kept-sizes (a .text .now) (a .view .used) (a .row .0) (a .count) (a .spaced) (c .before .before .before .before .before .before .before .before .before .before .before .before .before .before .before .before .before .before .find-row .result) (c .before .before .before .before .before .before .before .before .before .before .before .before .before .before .before .before .before .before .find-row .ensures) (c .before .before .before .before .before .before .before .before .before .before .before .before .before .before .before .join-plan .result) (c .before .before .before .before .before .before .before .before .before .before .before .before .before .before .before .join-plan .ensures) (s .pre .0))
+
+sub-kept : tie.Need-sub-kept
+sub-kept c = let s = c .before .before .before .before .before .before .before .before .before .before .before .before .before .before .before .before .before .before .before .before .before .before .before .before in let a = s .args in omega (arith, kept-sizes (a .text .now) (a .view .used) (a .row .0) (a .count) (a .spaced) (c .before .before .before .before .before .before .before .before .before .before .before .before .before .before .before .before .before .before .find-row .result) (c .before .before .before .before .before .before .before .before .before .before .before .before .before .before .before .before .before .before .find-row .ensures) (c .before .before .before .before .before .before .before .before .before .before .before .before .before .before .before .join-plan .result) (c .before .before .before .before .before .before .before .before .before .before .before .before .before .before .before .join-plan .ensures) (s .pre .0))
+
+remove-requires : tie.Need-remove-requires
+remove-requires c κs = let s = c .before .before .before .before .before .before .before .before .before .before .before .before .before .before .before .before .before .before .before .before .before .before .before .before .before in let a = s .args in (omega arith, omega (arith, end-within (a .text .now) (a .view .used) (a .row .0) (a .count) (a .spaced) (c .before .before .before .before .before .before .before .before .before .before .before .before .before .before .before .before .before .before .before .find-row .result) (c .before .before .before .before .before .before .before .before .before .before .before .before .before .before .before .before .before .before .before .find-row .ensures) (c .before .before .before .before .before .before .before .before .before .before .before .before .before .before .before .before .join-plan .result) (c .before .before .before .before .before .before .before .before .before .before .before .before .before .before .before .before .join-plan .ensures) (s .pre .0)), search needs)
 
 next-view-requires : tie.Need-next-view-requires
 next-view-requires c κs = search needs
@@ -71,7 +89,8 @@ same-length-4 : tie.Need-same-length-4
 same-length-4 c = search needs
 
 returns-2 : tie.Need-returns-2
-returns-2 c = let a = c .before .before .before .before .before .before .before .before .before .before .before .before .before .before .before .before .before .before .before .before .before .before .before .before .args in λ x f s op e. join-done (a .text .now) (a .view .used) (a .row .0) (a .count) (a .spaced) (c .before .before .before .before .before .before .before .before .before .before .before .before .before .before .before .before .before .before .find-row .result) (c .before .before .before .before .before .before .before .before .before .before .before .before .before .before .before .before .before .before .find-row .ensures) (c .before .before .before .before .before .before .before .before .before .before .before .before .before .before .before .join-plan .result) (c .before .before .before .before .before .before .before .before .before .before .before .before .before .before .before .join-plan .ensures) (a .view) refl (a .room) (c .before .before .before .before .before .before .before .before .before .before .before .before .before .before .judge .result) (c .before .before .before .before .before .before .before .before .before .before .before .before .before .before .judge .ensures) (c .before .before .before .before .before .before .before .before .before .before .before .before .enum-told .given .1) _ (c .next-view .ensures) _ (a .cols .now) _ (a .flags .now) _ x f s op (c .before .before .before .before .before .before .before .before .join-rows .ensures) e
+returns-2 c = let s = c .before .before .before .before .before .before .before .before .before .before .before .before .before .before .before .before .before .before .before .before .before .before .before .before .before .before .before .before .before .before in let a = s .args in λ x f y op e. join-done (a .text .now) (a .view .used) (a .row .0) (a .count) (a .spaced) (c .before .before .before .before .before .before .before .before .before .before .before .before .before .before .before .before .before .before .before .before .before .before .before .before .find-row .result) (c .before .before .before .before .before .before .before .before .before .before .before .before .before .before .before .before .before .before .before .before .before .before .before .before .find-row .ensures) (c .before .before .before .before .before .before .before .before .before .before .before .before .before .before .before .before .before .before .before .before .before .join-plan .result) (c .before .before .before .before .before .before .before .before .before .before .before .before .before .before .before .before .before .before .before .before .before .join-plan .ensures) (a .view) refl (a .room) (c .before .before .before .before .before .before .before .before .before .before .before .before .before .before .before .before .before .before .before .judge .result) (c .before .before .before .before .before .before .before .before .before .before .before .before .before .before .before .before .before .before .before .judge .ensures) (c .before .before .before .before .before .before .before .before .before .before .before .before .before .before .before .before .before .enum-told .given .1) _ (c .next-view .ensures) _ (a .cols .now) _ (a .flags .now) _ x f y op
+    (join-moved (a .text .now) (a .view .used) (a .row .0) (a .count) (a .spaced) (c .before .before .before .before .before .before .before .before .before .before .before .before .before .before .before .before .before .before .before .before .before .before .before .before .find-row .result) (c .before .before .before .before .before .before .before .before .before .before .before .before .before .before .before .before .before .before .before .before .before .before .before .before .find-row .ensures) (c .before .before .before .before .before .before .before .before .before .before .before .before .before .before .before .before .before .before .before .before .before .join-plan .result) (c .before .before .before .before .before .before .before .before .before .before .before .before .before .before .before .before .before .before .before .before .before .join-plan .ensures) (s .pre .0) _ _ (a .cols .now) _ (a .flags .now) _ (c .before .before .before .before .before .before .before .before .before .before .before .before .before .join-rows .ensures) (c .before .before .before .before .remove .ensures)) e
 
 pub join-spec : {M : Type 1} → statement M
 join-spec =
@@ -90,7 +109,13 @@ join-spec =
     same-length
     returns
     enum-told
+    sub-join-rows
+    part-join-rows-start
+    part-join-rows-end
     join-rows-requires
+    sub-gone
+    sub-kept
+    remove-requires
     next-view-requires
     same-length-2
     same-length-3

@@ -62,14 +62,14 @@ loop-less c = omega (arith, sizes (c .before .before .before .before))
 loop-again : tie.Need-loop-again Inv-loop μ-loop
 loop-again c = let s = sizes (c .before .before .before .before) in let a = c .before .before .before .before .before .before .before .before .before .args in let l = c .before .before .before .before .before .before .loop in (omega arith, omega arith, omega arith, planning-more (a .text .now) (a .count) (a .spaced) (a .found .end .0) (a .found .end .0 - a .found .start .0) (l .used) (l .at) (l .left) (l .made) (l .inv .3) (inside (c .before .before .before .before .before)) (c .before .before .before .before .join-turn .result) (c .before .before .before .before .join-turn .ensures) (c .before .before .before .before .before .loop-test .taken))
 
-cast-t17 : tie.Need-cast-t17 Inv-loop μ-loop
-cast-t17 c = search needs
-
 cast-t18 : tie.Need-cast-t18 Inv-loop μ-loop
 cast-t18 c = search needs
 
+cast-t19 : tie.Need-cast-t19 Inv-loop μ-loop
+cast-t19 c = search needs
+
 returns : tie.Need-returns Inv-loop μ-loop
-returns c = let a = c .before .before .before .before .args in let l = c .before .loop in planning-all (a .text .now) (a .count) (a .spaced) (a .found .end .0) (a .found .end .0 - a .found .start .0) (l .used) (l .at) (l .left) (l .made) (l .inv .3) (a .found) (c .before .before .before .before .pre .1) refl refl (c .loop-test .left)
+returns c = let a = c .before .before .before .before .args in let l = c .before .loop in planning-all (a .text .now) (a .count) (a .spaced) (a .found .end .0) (a .found .end .0 - a .found .start .0) (l .used) (l .at) (l .left) (l .made) (l .inv .3) (a .found) (c .before .before .before .before .pre .1) refl refl (c .loop-test .left) (l .inv .1)
 
 pub join-plan-spec : {M : Type 1} → statement M
 join-plan-spec =
@@ -89,6 +89,6 @@ join-plan-spec =
     add-made
     loop-less
     loop-again
-    cast-t17
     cast-t18
+    cast-t19
     returns)
