@@ -1,6 +1,6 @@
 -- What the parts of a chunk delete find and leave.
 use mathlib.Core.List.{List}
-use Prim.Native.Nat.{ℕ, _+_, _-_}
+use Prim.Native.Nat.{ℕ, zero, suc, _+_, _-_}
 use lib.ListN.{length, take}
 use Rattle.text.specs.declared.Position.{Position}
 use Rattle.text.specs.Rows.{charAt, at, rowLen, rowStart, offset}
@@ -20,9 +20,14 @@ cutAt t p w d = record {
   end = charAt (rowStart isLF t (p .row .0) + rowLen isLF t (p .row .0));
 }
 
--- cut_size: how long the text and the payload of its inverse are
-abbrev pub sizesOf : Edited ℕ → Sizes
-sizesOf d = record { used = length (d .text); payload = length (d .inverse .payload) }
+-- where the last of n rows from r on ends; with no row, where the text ends
+unfoldable pub rowsEnd : List ℕ → ℕ → ℕ → ℕ
+rowsEnd t r zero = length t
+rowsEnd t r (suc n) = rowStart isLF t (r + n) + rowLen isLF t (r + n)
+
+-- cut_size: how long the text and the payload of its inverse are, and where the last row that is cut ends
+abbrev pub sizesOf : Edited ℕ → ℕ → Sizes
+sizesOf d end = record { used = length (d .text); payload = length (d .inverse .payload); end = charAt end }
 
 -- cut_rows: the three slices that it writes
 pub record Left : Type 0 where

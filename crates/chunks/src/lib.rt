@@ -24,7 +24,7 @@ ghost use Rattle.edit.specs.declared.MotionKind.the-variants.{Block};
 ghost use Rattle.edit.specs.Edits.{chunksDeleted, rangeDeleted, height};
 ghost use Rattle.edit.specs.Refusals.{isSpace, spaces};
 ghost use Rattle.edit.specs.Call.{paperAnswer, outcome, lent, roomOf, finished};
-ghost use Rattle.chunks.specs.Chunks.{cutAt, sizesOf, left, cutFrom, leftBy};
+ghost use Rattle.chunks.specs.Chunks.{cutAt, rowsEnd, sizesOf, left, cutFrom, leftBy};
 
 // Where a row's cut begins, where the chunk begins in it, behind the padding, where both end, and where the row ends.
 struct Cut {
@@ -34,10 +34,12 @@ struct Cut {
     end: CharOffset,
 }
 
-// How long the text will be, and how long all chunks are together.
+// How long the text will be, how long all chunks are together, and where the last row that is cut ends; with no such row, where
+// the text ends.
 struct Sizes {
     used: usize,
     payload: usize,
+    end: CharOffset,
 }
 
 // A missing pad is 0.
@@ -72,13 +74,14 @@ fn cut_splice(text: &[u32], begin: CharOffset, pos: Position, width: u32, pad: u
 
 fn cut_size(text: &[u32], at: Position, widths: &[u32], pads: &[u32]) -> Sizes
     requires { ⌜ (length (now text) ≤ textLimit) × (at .row .0 ≤ 1_000_000) × (length (now widths) ≤ 256) × (length (now widths) ≤ rowCount isLF (now text) - at .row .0) ⌝ }
-    ensures { λ r. ⌜ r ≡ sizesOf (chunksDeleted isLF isSpace spaces (now (text .entry)) at (now (widths .entry)) (now (pads .entry))) ⌝ }
+    ensures { λ r. ⌜ r ≡ sizesOf (chunksDeleted isLF isSpace spaces (now (text .entry)) at (now (widths .entry)) (now (pads .entry))) (rowsEnd (now (text .entry)) (at .row .0) (length (now (widths .entry)))) ⌝ }
 {
     let row = at.row.0;
     let col = at.col;
     let mut gone = 0;
     let mut payload = 0;
     let mut start = text::line_to_char(text, at.row).0;
+    let mut end = text.len();
     let mut k = 0;
     while k < widths.len() {
         let pos = Position {
@@ -88,12 +91,14 @@ fn cut_size(text: &[u32], at: Position, widths: &[u32], pads: &[u32]) -> Sizes
         let cut = cut_splice(text, CharOffset(start), pos, widths[k], pad_at(pads, k));
         gone += cut.to.0 - cut.from.0;
         payload += cut.to.0 - cut.chunk.0;
-        start = cut.end.0 + 1;
+        end = cut.end.0;
+        start = end + 1;
         k += 1;
     }
     Sizes {
         used: text.len() - gone,
         payload,
+        end: CharOffset(end),
     }
 }
 
@@ -145,6 +150,26 @@ fn cut_rows(
     }
 }
 
+// Cuts the chunks out of the text up to where the last of the rows ends, and then moves what is behind once.
+fn cut_block(
+    text: &mut [u32],
+    used: usize,
+    sizes: Sizes,
+    at: Position,
+    widths: &[u32],
+    pads: &[u32],
+    out: &mut [u32],
+    lens: &mut [u32],
+)
+    requires { ⌜ (used ≤ length (now text)) × (used ≤ textLimit) × (at .row .0 ≤ 1_000_000) × (length (now widths) ≤ 256) × (length (now widths) ≤ rowCount isLF (take used (now text)) - at .row .0) × (length (cutFrom (now text) used at (now widths) (now pads) .inverse .payload) ≤ length (now out)) × (length (now widths) ≤ length (now lens)) × (sizes ≡ sizesOf (cutFrom (now text) used at (now widths) (now pads)) (rowsEnd (take used (now text)) (at .row .0) (length (now widths)))) ⌝ }
+    ensures { λ _. ⌜ left (now (text .exit)) (now (out .exit)) (now (lens .exit)) ≡ leftBy (cutFrom (now (text .entry)) used at (now (widths .entry)) (now (pads .entry))) (now (text .entry)) used (now (out .entry)) (now (lens .entry)) ⌝ }
+{
+    let end = sizes.end.0;
+    let gone = used - sizes.used;
+    cut_rows(&mut text[0..end], end, at, widths, pads, out, lens);
+    splice::remove(text, used, CharOffset(end - gone), CharOffset(end));
+}
+
 pub fn delete_chunks(
     text: &mut [u32],
     view: View,
@@ -173,7 +198,7 @@ pub fn delete_chunks(
     if let Verdict::Bad(why) = verdict {
         return Answer::Refused(why);
     }
-    cut_rows(text, used, at, &widths[0..rows], pads, out, lens);
+    cut_block(text, used, sizes, at, &widths[0..rows], pads, out, lens);
     splice::fill(lens, CharOffset(rows), count - rows, 0);
     let cursor = text::clamp(&text[0..size], at);
     Answer::Done(Applied {
