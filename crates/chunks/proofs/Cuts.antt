@@ -9,6 +9,7 @@ use native.Mathlib.Omega.{arith}
 use lib.ListN.{length, take, drop, getD, length-append, length-take, length-drop, length-map, drop-of-length-le}
 use lib.Seq.{paste, slice, take-all, take-append-le, drop-drop, drop-append-le, drop-append-add, getD-drop, length-take-le}
 use Rattle.promise.proofs.Lists.{next, drop-take}
+use Rattle.text.specs.declared.CharOffset.{CharOffset}
 use Rattle.text.specs.declared.Position.{Position}
 use Rattle.text.specs.Rows.{Line, line, lines, unlines, at, rowCount, lastRow, rowLen, rowStart, offset, spliced, charAt}
 use Rattle.text.specs.Text.{isLF}
@@ -257,11 +258,12 @@ module _ {t : List ℕ} {r c : ℕ} {ws ds : List ℕ} {gone payload start end k
   sizing-bounds =
       (omega (arith, s .less, chunksDeleted-length t (at r c) ws ds), omega (arith, s .more, chunks-le t c r ws))
 
-  pub sizing-done : length ws ≤ k → record { used = length t - gone; payload = payload; end = charAt end } ≡ sizesOf (deleted t r c ws ds) (rowsEnd t r (length ws))
-  sizing-done h =
+  pub sizing-done : (first : CharOffset) → first .0 ≡ rowStart isLF t r → length ws ≤ k → record { used = length t - gone; payload = payload; start = first; end = charAt end } ≡ sizesOf t (at r c) ws ds
+  sizing-done first e h =
       let a : gone ≡ loss c ws ds (drop r (lines isLF t)) = rw (drop-of-length-le ws h, loss-none c (drop k ds) (drop (r + k) (lines isLF t)), add-zero) at (s .less) in
       let b : payload ≡ taken c ws (drop r (lines isLF t)) = rw (drop-of-length-le ws h, taken-none c (drop (r + k) (lines isLF t)), add-zero) at (s .more) in
       let n : length t - gone ≡ length (deleted t r c ws ds .text) = omega (arith, chunksDeleted-length t (at r c) ws ds) in
       let m : payload ≡ length (deleted t r c ws ds .inverse .payload) = b ∙ sym (payload-length t r c ws ds) in
       let z : end ≡ rowsEnd t r (length ws) = s .ends ∙ ap (rowsEnd t r) (omega (arith, s .within)) in
-      rw (n, m, z)
+      let f : first ≡ charAt (rowStart isLF t r) = ap charAt e in
+      rw (n, m, f, z)

@@ -107,6 +107,10 @@ module _ (t : List ℕ) (r c : ℕ) (w : ℕ) (ws ds : List ℕ) (h : r + length
   above-front : take r (lines isLF (take n t)) ≡ take r (lines isLF t)
   above-front = ap (take r) (front-rows t q h) ∙ above (line (b t q h) []) []
 
+  start-front : rowStart isLF (take n t) r ≡ rowStart isLF t r
+  unfolding rowStart
+  start-front = ap (λ (l : List (Line ℕ)). length (unlines l)) above-front
+
   count-front : rowCount isLF (take n t) ≡ suc q
   unfolding rowCount
   count-front = ap length (front-rows t q h) ∙ omega (arith, length-append (A t q h) (line (b t q h) [] ∷ []), above-long t q h)
@@ -133,6 +137,7 @@ module _ (t : List ℕ) (r c : ℕ) (w : ℕ) (ws ds : List ℕ) (h : r + length
 -- e is where the last row that is cut ends
 pub record Local (t : List ℕ) (r c : ℕ) (ws ds : List ℕ) (e : ℕ) : Type 0 where
   pub within : e ≤ length t
+  pub start : rowStart isLF (take e t) r ≡ rowStart isLF t r
   pub rows : length ws ≤ rowCount isLF (take e t) - r
   pub text : deleted t r c ws ds .text ≡ deleted (take e t) r c ws ds .text ++ drop e t
   pub payload : deleted (take e t) r c ws ds .inverse .payload ≡ deleted t r c ws ds .inverse .payload
@@ -140,11 +145,12 @@ pub record Local (t : List ℕ) (r c : ℕ) (ws ds : List ℕ) (e : ℕ) : Type 
 
 pub local : (t : List ℕ) (r c : ℕ) (ws ds : List ℕ) → length ws ≤ rowCount isLF t - r → Local t r c ws ds (rowsEnd t r (length ws))
 unfolding rowsEnd
-local t r c [] ds h = record { within = omega arith; rows = omega arith; text = rw (take-length, drop-length, append-nil); payload = rw take-length; first = rw take-length }
+local t r c [] ds h = record { within = omega arith; start = rw take-length; rows = omega arith; text = rw (take-length, drop-length, append-nil); payload = rw take-length; first = rw take-length }
 local t r c (w ∷ ws) ds h =
     let k : r + length ws ≤ lastRow isLF t = row-there t r (length ws) (suc (length ws)) (omega arith) h in
     record {
       within = row-within isLF t (r + length ws);
+      start = start-front t r c w ws ds k;
       rows = omega (arith, count-front t r c w ws ds k);
       text = text-local t r c w ws ds k;
       payload = payload-local t r c w ws ds k;
@@ -191,7 +197,7 @@ module _ (b : List ℕ) (used e : ℕ) (u : List ℕ) (hu : length u ≤ e) (he 
 
 -- ---- in the code's words
 
-module _ (b : List ℕ) (used : ℕ) (p : Position) (ws ds : List ℕ) (z : Sizes) (ez : z ≡ sizesOf (cutFrom b used p ws ds) (rowsEnd (take used b) (p .row .0) (length ws)))
+module _ (b : List ℕ) (used : ℕ) (p : Position) (ws ds : List ℕ) (z : Sizes) (ez : z ≡ sizesOf (take used b) p ws ds)
     (hb : used ≤ length b) (hw : length ws ≤ rowCount isLF (take used b) - p .row .0) where
   abbrev d : Edited ℕ
   d = cutFrom b used p ws ds
@@ -234,7 +240,7 @@ module _ (b : List ℕ) (used : ℕ) (p : Position) (ws ds : List ℕ) (z : Size
 
   pub front-asked : used ≤ 16_384 → p .row .0 ≤ 1_000_000 → length ws ≤ 256 → (o l : List ℕ) → length (d .inverse .payload) ≤ length o → length ws ≤ length l
       → (z .end .0 ≤ length x) × (z .end .0 ≤ 16_384) × (p .row .0 ≤ 1_000_000) × (length ws ≤ 256) × (length ws ≤ rowCount isLF (take (z .end .0) x) - p .row .0)
-      × (length (f .inverse .payload) ≤ length o) × (length ws ≤ length l)
+      × (length (f .inverse .payload) ≤ length o) × (length ws ≤ length l) × (z .start .0 ≡ rowStart isLF (take (z .end .0) x) (p .row .0))
   front-asked hu hr hn o l ho hl = (
     omega (arith, length-take (z .end .0 - 0) b, end-used),
     omega (arith, end-used),
@@ -243,6 +249,7 @@ module _ (b : List ℕ) (used : ℕ) (p : Position) (ws ds : List ℕ) (z : Size
     rw lent-is (here .rows),
     rw payload-here ho,
     hl,
+    ap (λ (y : Sizes). y .start .0) ez ∙ rw lent-is (sym (here .start)),
   )
 
   -- y, o₁ and l₁ are left by the loop over the rows, b₁ by the move

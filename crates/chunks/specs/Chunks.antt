@@ -25,9 +25,16 @@ unfoldable pub rowsEnd : List ℕ → ℕ → ℕ → ℕ
 rowsEnd t r zero = length t
 rowsEnd t r (suc n) = rowStart isLF t (r + n) + rowLen isLF t (r + n)
 
--- cut_size: how long the text and the payload of its inverse are, and where the last row that is cut ends
-abbrev pub sizesOf : Edited ℕ → ℕ → Sizes
-sizesOf d end = record { used = length (d .text); payload = length (d .inverse .payload); end = charAt end }
+-- cut_size: how long the text and the payload of its inverse are, where the first row starts, and where the last row that is cut ends
+abbrev pub sizesOf : List ℕ → Position → List ℕ → List ℕ → Sizes
+sizesOf t p ws ds =
+    let d = chunksDeleted isLF isSpace spaces t p ws ds in
+    record {
+      used = length (d .text);
+      payload = length (d .inverse .payload);
+      start = charAt (rowStart isLF t (p .row .0));
+      end = charAt (rowsEnd t (p .row .0) (length ws));
+    }
 
 -- cut_rows: the three slices that it writes
 pub record Left : Type 0 where

@@ -24,7 +24,7 @@ ghost use Rattle.edit.specs.declared.MotionKind.the-variants.{Block};
 ghost use Rattle.edit.specs.Edits.{chunksDeleted, rangeDeleted, height};
 ghost use Rattle.edit.specs.Refusals.{isSpace, spaces};
 ghost use Rattle.edit.specs.Call.{paperAnswer, outcome, lent, roomOf, finished};
-ghost use Rattle.chunks.specs.Chunks.{cutAt, rowsEnd, sizesOf, left, cutFrom, leftBy};
+ghost use Rattle.chunks.specs.Chunks.{cutAt, sizesOf, left, cutFrom, leftBy};
 
 // Where a row's cut begins, where the chunk begins in it, behind the padding, where both end, and where the row ends.
 struct Cut {
@@ -34,11 +34,12 @@ struct Cut {
     end: CharOffset,
 }
 
-// How long the text will be, how long all chunks are together, and where the last row that is cut ends; with no such row, where
-// the text ends.
+// How long the text will be, how long all chunks are together, where the first row of the block starts and where the last row that
+// is cut ends; with no such row, where the text ends.
 struct Sizes {
     used: usize,
     payload: usize,
+    start: CharOffset,
     end: CharOffset,
 }
 
@@ -74,13 +75,14 @@ fn cut_splice(text: &[u32], begin: CharOffset, pos: Position, width: u32, pad: u
 
 fn cut_size(text: &[u32], at: Position, widths: &[u32], pads: &[u32]) -> Sizes
     requires { ⌜ (length (now text) ≤ textLimit) × (at .row .0 ≤ 1_000_000) × (length (now widths) ≤ 256) × (length (now widths) ≤ rowCount isLF (now text) - at .row .0) ⌝ }
-    ensures { λ r. ⌜ r ≡ sizesOf (chunksDeleted isLF isSpace spaces (now (text .entry)) at (now (widths .entry)) (now (pads .entry))) (rowsEnd (now (text .entry)) (at .row .0) (length (now (widths .entry)))) ⌝ }
+    ensures { λ r. ⌜ r ≡ sizesOf (now (text .entry)) at (now (widths .entry)) (now (pads .entry)) ⌝ }
 {
     let row = at.row.0;
     let col = at.col;
     let mut gone = 0;
     let mut payload = 0;
-    let mut start = text::line_to_char(text, at.row).0;
+    let first = text::line_to_char(text, at.row);
+    let mut start = first.0;
     let mut end = text.len();
     let mut k = 0;
     while k < widths.len() {
@@ -98,6 +100,7 @@ fn cut_size(text: &[u32], at: Position, widths: &[u32], pads: &[u32]) -> Sizes
     Sizes {
         used: text.len() - gone,
         payload,
+        start: first,
         end: CharOffset(end),
     }
 }
@@ -113,23 +116,24 @@ fn cut_row(text: &mut [u32], used: usize, cut: Cut, out: &mut [u32], filled: usi
     splice::remove(text, used, CharOffset(cut.from.0), CharOffset(end));
 }
 
-// Cuts the chunks out, one from each row.
+// Cuts the chunks out, one from each row. The first of the rows begins at `begin`.
 fn cut_rows(
     text: &mut [u32],
     used: usize,
+    begin: CharOffset,
     at: Position,
     widths: &[u32],
     pads: &[u32],
     out: &mut [u32],
     lens: &mut [u32],
 )
-    requires { ⌜ (used ≤ length (now text)) × (used ≤ textLimit) × (at .row .0 ≤ 1_000_000) × (length (now widths) ≤ 256) × (length (now widths) ≤ rowCount isLF (take used (now text)) - at .row .0) × (length (cutFrom (now text) used at (now widths) (now pads) .inverse .payload) ≤ length (now out)) × (length (now widths) ≤ length (now lens)) ⌝ }
+    requires { ⌜ (used ≤ length (now text)) × (used ≤ textLimit) × (at .row .0 ≤ 1_000_000) × (length (now widths) ≤ 256) × (length (now widths) ≤ rowCount isLF (take used (now text)) - at .row .0) × (length (cutFrom (now text) used at (now widths) (now pads) .inverse .payload) ≤ length (now out)) × (length (now widths) ≤ length (now lens)) × (begin .0 ≡ rowStart isLF (take used (now text)) (at .row .0)) ⌝ }
     ensures { λ _. ⌜ left (now (text .exit)) (now (out .exit)) (now (lens .exit)) ≡ leftBy (cutFrom (now (text .entry)) used at (now (widths .entry)) (now (pads .entry))) (now (text .entry)) used (now (out .entry)) (now (lens .entry)) ⌝ }
 {
     let row = at.row.0;
     let col = at.col;
     let mut long = used;
-    let mut start = text::line_to_char(&text[0..used], at.row).0;
+    let mut start = begin.0;
     let mut filled = 0;
     let mut k = 0;
     while k < widths.len() {
@@ -161,12 +165,13 @@ fn cut_block(
     out: &mut [u32],
     lens: &mut [u32],
 )
-    requires { ⌜ (used ≤ length (now text)) × (used ≤ textLimit) × (at .row .0 ≤ 1_000_000) × (length (now widths) ≤ 256) × (length (now widths) ≤ rowCount isLF (take used (now text)) - at .row .0) × (length (cutFrom (now text) used at (now widths) (now pads) .inverse .payload) ≤ length (now out)) × (length (now widths) ≤ length (now lens)) × (sizes ≡ sizesOf (cutFrom (now text) used at (now widths) (now pads)) (rowsEnd (take used (now text)) (at .row .0) (length (now widths)))) ⌝ }
+    requires { ⌜ (used ≤ length (now text)) × (used ≤ textLimit) × (at .row .0 ≤ 1_000_000) × (length (now widths) ≤ 256) × (length (now widths) ≤ rowCount isLF (take used (now text)) - at .row .0) × (length (cutFrom (now text) used at (now widths) (now pads) .inverse .payload) ≤ length (now out)) × (length (now widths) ≤ length (now lens)) × (sizes ≡ sizesOf (take used (now text)) at (now widths) (now pads)) ⌝ }
     ensures { λ _. ⌜ left (now (text .exit)) (now (out .exit)) (now (lens .exit)) ≡ leftBy (cutFrom (now (text .entry)) used at (now (widths .entry)) (now (pads .entry))) (now (text .entry)) used (now (out .entry)) (now (lens .entry)) ⌝ }
 {
+    let start = sizes.start;
     let end = sizes.end.0;
     let gone = used - sizes.used;
-    cut_rows(&mut text[0..end], end, at, widths, pads, out, lens);
+    cut_rows(&mut text[0..end], end, start, at, widths, pads, out, lens);
     splice::remove(text, used, CharOffset(end - gone), CharOffset(end));
 }
 

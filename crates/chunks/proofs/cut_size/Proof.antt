@@ -13,10 +13,10 @@ use Rattle.chunks.proofs.pad_at.Reads as pad-at-reads
 use Rattle.text.proofs.line_to_char.Reads as line-to-char-reads
 
 abbrev Inv-loop : tie.InvT-loop
-Inv-loop text widths pads row col gone₀ payload₀ start₀ end₀ k₀ gone payload start end k = Sizing text row (col .0) widths pads gone payload start end k
+Inv-loop text widths pads row col first gone₀ payload₀ start₀ end₀ k₀ gone payload start end k = Sizing text row (col .0) widths pads gone payload start end k
 
 abbrev μ-loop : tie.MeasureT-loop
-μ-loop text widths pads row col gone₀ payload₀ start₀ end₀ k₀ gone payload start end k = length widths - k
+μ-loop text widths pads row col first gone₀ payload₀ start₀ end₀ k₀ gone payload start end k = length widths - k
 
 line-to-char-requires : tie.Need-line-to-char-requires Inv-loop μ-loop
 line-to-char-requires c κs = search needs
@@ -70,7 +70,7 @@ sub-t23 : tie.Need-sub-t23 Inv-loop μ-loop
 sub-t23 c = sizing-bounds (c .before .loop .inv) .0
 
 returns : tie.Need-returns Inv-loop μ-loop
-returns c = sizing-done (c .before .loop .inv) (omega arith)
+returns c = sizing-done (c .before .loop .inv) (c .before .before .line-to-char .result) (c .before .before .line-to-char .ensures) (omega arith)
 
 pub cut-size-spec : {M : Type 1} → statement M
 cut-size-spec =
