@@ -6,10 +6,10 @@ use native.Mathlib.Nat.{sub-zero}
 use native.Mathlib.Omega.{arith}
 use lib.ListN.{length, take, drop, replicate, length-append, length-take, length-drop, length-replicate, drop-of-length-le, take-append-drop}
 use lib.Seq.{take-length, drop-length, take-at, drop-at, take-take, take-append-seam, drop-drop, take-append-le, drop-append-le, length-take-le}
+use Rattle.promise.specs.Slices.{over}
 use Rattle.promise.proofs.Lists.{drop-take}
 use Rattle.text.specs.declared.Position.{Position}
 use Rattle.text.specs.Rows.{Line, line, lines, unlines, rowCount, lastRow, rowLen, rowStart, spliced}
-use Rattle.promise.specs.Slices.{over}
 use Rattle.text.specs.Text.{isLF, renewed}
 use Rattle.text.proofs.Spots.{row-within}
 use Rattle.text.proofs.Ended.{final, unlines-append}
@@ -89,9 +89,6 @@ module _ (t : List ℕ) (r c : ℕ) (w : ℕ) (ws ds : List ℕ) (h : r + length
   abbrev n : ℕ
   n = rowStart isLF t q + rowLen isLF t q
 
-  above : (x : Line ℕ) (C : List (Line ℕ)) → take r (A t q h ++ x ∷ C) ≡ take r (lines isLF t)
-  above x C = take-append-le r (A t q h) (x ∷ C) (omega (arith, above-long t q h)) ∙ take-take r q (lines isLF t) (omega arith)
-
   below : (x : Line ℕ) (C : List (Line ℕ)) → drop r (A t q h ++ x ∷ C) ≡ drop r (A t q h) ++ x ∷ C
   below x C = drop-append-le r (A t q h) (x ∷ C) (omega (arith, above-long t q h))
 
@@ -105,7 +102,8 @@ module _ (t : List ℕ) (r c : ℕ) (w : ℕ) (ws ds : List ℕ) (h : r + length
   rows-front = ap (drop r) (front-rows t q h) ∙ below (line (b t q h) []) []
 
   above-front : take r (lines isLF (take n t)) ≡ take r (lines isLF t)
-  above-front = ap (take r) (front-rows t q h) ∙ above (line (b t q h) []) []
+  above-front =
+      ap (take r) (front-rows t q h) ∙ take-append-le r (A t q h) (line (b t q h) [] ∷ []) (omega (arith, above-long t q h)) ∙ take-take r q (lines isLF t) (omega arith)
 
   start-front : rowStart isLF (take n t) r ≡ rowStart isLF t r
   unfolding rowStart
@@ -135,7 +133,7 @@ module _ (t : List ℕ) (r c : ℕ) (w : ℕ) (ws ds : List ℕ) (h : r + length
   first-local = ap (map length) chunks-local
 
 -- e is where the last row that is cut ends
-pub record Local (t : List ℕ) (r c : ℕ) (ws ds : List ℕ) (e : ℕ) : Type 0 where
+record Local (t : List ℕ) (r c : ℕ) (ws ds : List ℕ) (e : ℕ) : Type 0 where
   pub within : e ≤ length t
   pub start : rowStart isLF (take e t) r ≡ rowStart isLF t r
   pub rows : length ws ≤ rowCount isLF (take e t) - r
@@ -143,7 +141,7 @@ pub record Local (t : List ℕ) (r c : ℕ) (ws ds : List ℕ) (e : ℕ) : Type 
   pub payload : deleted (take e t) r c ws ds .inverse .payload ≡ deleted t r c ws ds .inverse .payload
   pub first : deleted (take e t) r c ws ds .inverse .first ≡ deleted t r c ws ds .inverse .first
 
-pub local : (t : List ℕ) (r c : ℕ) (ws ds : List ℕ) → length ws ≤ rowCount isLF t - r → Local t r c ws ds (rowsEnd t r (length ws))
+local : (t : List ℕ) (r c : ℕ) (ws ds : List ℕ) → length ws ≤ rowCount isLF t - r → Local t r c ws ds (rowsEnd t r (length ws))
 unfolding rowsEnd
 local t r c [] ds h = record { within = omega arith; start = rw take-length; rows = omega arith; text = rw (take-length, drop-length, append-nil); payload = rw take-length; first = rw take-length }
 local t r c (w ∷ ws) ds h =
