@@ -4,10 +4,12 @@ use mathlib.Core.List.{List, [], _∷_, _++_, append-assoc, flatten}
 use Prim.Native.Nat.{ℕ, suc, _+_, _-_, _≤_, _<_, min}
 use native.Mathlib.Nat.{add-zero, zero-add, add-assoc, min-eq-left, min-eq-right}
 use native.Mathlib.Decide.{decLe}
+use native.Mathlib.Numerals.{add-one}
 use native.Mathlib.Omega.{arith}
 use lib.ListN.{length, take, drop, getD, length-append, length-take, length-drop, length-map, drop-of-length-le}
 use lib.Seq.{paste, slice, take-all, take-append-le, drop-drop, drop-append-le, drop-append-add, getD-drop, length-take-le}
 use Rattle.promise.proofs.Lists.{next, drop-take}
+use Rattle.text.specs.declared.CharOffset.{CharOffset}
 use Rattle.text.specs.declared.Position.{Position}
 use Rattle.text.specs.Rows.{Line, line, lines, unlines, at, rowCount, lastRow, rowLen, rowStart, offset, spliced, charAt}
 use Rattle.text.specs.Text.{isLF}
@@ -21,7 +23,7 @@ use Rattle.edit.proofs.Blocks.{chunksOf-length, chunks-le}
 use Rattle.edit.proofs.Sizes.{loss, chunksDeleted-length}
 use Rattle.blocks.proofs.Starts.{plain-none, scan-row, start-turned, row-there, Begins, begins-first, begins-next, end-within}
 use Rattle.chunks.specs.declared.Cut.{Cut}
-use Rattle.chunks.specs.Chunks.{cutAt, sizesOf}
+use Rattle.chunks.specs.Chunks.{cutAt, rowsEnd, sizesOf}
 
 abbrev pub deleted : List ℕ → ℕ → ℕ → List ℕ → List ℕ → Edited ℕ
 deleted t r c ws ds = chunksDeleted isLF isSpace spaces t (at r c) ws ds
@@ -209,16 +211,18 @@ module _ (t : List ℕ) (r c k : ℕ) (ws ds : List ℕ) (h : k < length ws) (l 
 
 -- ---- the loop that finds the sizes
 
-pub record Sizing (t : List ℕ) (r c : ℕ) (ws ds : List ℕ) (gone payload start k : ℕ) : Type 0 where
+pub record Sizing (t : List ℕ) (r c : ℕ) (ws ds : List ℕ) (gone payload start end k : ℕ) : Type 0 where
   pub within : k ≤ length ws
   pub begins : Begins t r (length ws) k start
+  pub ends : end ≡ rowsEnd t r k
   pub less : gone + loss c (drop k ws) (drop k ds) (drop (r + k) (lines isLF t)) ≡ loss c ws ds (drop r (lines isLF t))
   pub more : payload + taken c (drop k ws) (drop (r + k) (lines isLF t)) ≡ taken c ws (drop r (lines isLF t))
 
-pub sizing-none : (t : List ℕ) (r c : ℕ) (ws ds : List ℕ) (start : ℕ) → start ≡ rowStart isLF t r → Sizing t r c ws ds 0 0 start 0
-sizing-none t r c ws ds start e = record { within = omega arith; begins = begins-first t r (length ws) start e; less = rw (add-zero, zero-add); more = rw (add-zero, zero-add) }
+pub sizing-none : (t : List ℕ) (r c : ℕ) (ws ds : List ℕ) (start : ℕ) → start ≡ rowStart isLF t r → Sizing t r c ws ds 0 0 start (length t) 0
+unfolding rowsEnd
+sizing-none t r c ws ds start e = record { within = omega arith; begins = begins-first t r (length ws) start e; ends = refl; less = rw (add-zero, zero-add); more = rw (add-zero, zero-add) }
 
-module _ {t : List ℕ} {r c : ℕ} {ws ds : List ℕ} {gone payload start k : ℕ} (s : Sizing t r c ws ds gone payload start k) (h : k < length ws) (there : length ws ≤ rowCount isLF t - r)
+module _ {t : List ℕ} {r c : ℕ} {ws ds : List ℕ} {gone payload start end k : ℕ} (s : Sizing t r c ws ds gone payload start end k) (h : k < length ws) (there : length ws ≤ rowCount isLF t - r)
     (d : ℕ) (ed : d ≡ getD ds k 0) (cut : Cut) (e : cut ≡ cutAt t (at (r + k) c) (getD ws k 0) d) where
   row-now : r + k ≤ lastRow isLF t
   row-now = row-there t r k (length ws) h there
@@ -243,18 +247,23 @@ module _ {t : List ℕ} {r c : ℕ} {ws ds : List ℕ} {gone payload start k : �
   pub end-found : cut .end .0 ≤ length t
   end-found = end-within t r k (cut .end .0) (ap (λ (z : Cut). z .end .0) cut-here)
 
-  pub sizing-next : Sizing t r c ws ds (gone + (cut .to .0 - cut .from .0)) (payload + (cut .to .0 - cut .chunk .0)) (cut .end .0 + 1) (k + 1)
-  sizing-next = record { within = omega arith; begins = begins-next t r k (cut .end .0) (ap (λ (z : Cut). z .end .0) cut-here) (length ws) there; less = sizing-less; more = sizing-more }
+  pub sizing-next : Sizing t r c ws ds (gone + (cut .to .0 - cut .from .0)) (payload + (cut .to .0 - cut .chunk .0)) (cut .end .0 + 1) (cut .end .0) (k + 1)
+  unfolding rowsEnd
+  sizing-next =
+      let q : cut .end .0 ≡ rowStart isLF t (r + k) + rowLen isLF t (r + k) = ap (λ (z : Cut). z .end .0) cut-here in
+      record { within = omega arith; begins = begins-next t r k (cut .end .0) q (length ws) there; ends = rw add-one q; less = sizing-less; more = sizing-more }
 
-module _ {t : List ℕ} {r c : ℕ} {ws ds : List ℕ} {gone payload start k : ℕ} (s : Sizing t r c ws ds gone payload start k) where
+module _ {t : List ℕ} {r c : ℕ} {ws ds : List ℕ} {gone payload start end k : ℕ} (s : Sizing t r c ws ds gone payload start end k) where
   pub sizing-bounds : (gone ≤ length t) × (payload ≤ length t)
   sizing-bounds =
       (omega (arith, s .less, chunksDeleted-length t (at r c) ws ds), omega (arith, s .more, chunks-le t c r ws))
 
-  pub sizing-done : length ws ≤ k → record { used = length t - gone; payload = payload } ≡ sizesOf (deleted t r c ws ds)
-  sizing-done h =
+  pub sizing-done : (first : CharOffset) → first .0 ≡ rowStart isLF t r → length ws ≤ k → record { used = length t - gone; payload = payload; start = first; end = charAt end } ≡ sizesOf t (at r c) ws ds
+  sizing-done first e h =
       let a : gone ≡ loss c ws ds (drop r (lines isLF t)) = rw (drop-of-length-le ws h, loss-none c (drop k ds) (drop (r + k) (lines isLF t)), add-zero) at (s .less) in
       let b : payload ≡ taken c ws (drop r (lines isLF t)) = rw (drop-of-length-le ws h, taken-none c (drop (r + k) (lines isLF t)), add-zero) at (s .more) in
       let n : length t - gone ≡ length (deleted t r c ws ds .text) = omega (arith, chunksDeleted-length t (at r c) ws ds) in
       let m : payload ≡ length (deleted t r c ws ds .inverse .payload) = b ∙ sym (payload-length t r c ws ds) in
-      rw (n, m)
+      let z : end ≡ rowsEnd t r (length ws) = s .ends ∙ ap (rowsEnd t r) (omega (arith, s .within)) in
+      let f : first ≡ charAt (rowStart isLF t r) = ap charAt e in
+      rw (n, m, f, z)

@@ -42,7 +42,7 @@ pub record Cutting (b₀ : List ℕ) (used r c : ℕ) (ws ds o₀ l₀ b o l : L
 
 -- ---- at the start
 
-pub cutting-none : (b₀ : List ℕ) (used r c : ℕ) (ws ds o₀ l₀ : List ℕ) (start : ℕ) → used ≤ length b₀ → start ≡ rowStart isLF (take (used - 0) b₀) r
+pub cutting-none : (b₀ : List ℕ) (used r c : ℕ) (ws ds o₀ l₀ : List ℕ) (start : ℕ) → used ≤ length b₀ → start ≡ rowStart isLF (take used b₀) r
     → Cutting b₀ used r c ws ds o₀ l₀ b₀ o₀ l₀ used start 0 0
 cutting-none b₀ used r c ws ds o₀ l₀ start h e = record {
   within = omega arith;
@@ -53,7 +53,7 @@ cutting-none b₀ used r c ws ds o₀ l₀ start h e = record {
   lensSize = refl;
   kept = renewed-same b₀ used h;
   rows = refl;
-  begins = begins-first (take used b₀) r (length ws) start (rw sub-zero at e);
+  begins = begins-first (take used b₀) r (length ws) start e;
   text = rw add-zero;
   upto = omega arith;
   out = refl;

@@ -130,11 +130,13 @@ module _ (b : List ℕ) (used : ℕ) (p : Position) (ws ds : List ℕ) (m : ℕ)
   front-length : length (take (m - 0) ws) ≡ m
   front-length = length-take (m - 0) ws ∙ omega (arith, rows-found)
 
-  module _ (z : Sizes) (es : z ≡ sizesOf (chunksDeleted isLF isSpace spaces (take (used - 0) b) p (take (m - 0) ws) ds)) where
+  module _ (z : Sizes) (es : z ≡ sizesOf (take (used - 0) b) p (take (m - 0) ws) ds) where
+    sizes-given : z ≡ sizesOf (take used b) p (take (m - 0) ws) ds
+    sizes-given = let q : take (used - 0) b ≡ take used b = rw sub-zero in rw q at es
+
     sizes-found : (z .used ≡ length (d .text)) × (z .payload ≡ length (d .inverse .payload))
     sizes-found =
-        let q : take (used - 0) b ≡ take used b = rw sub-zero in
-        let e : z ≡ sizesOf f = rw q at es in
+        let e = sizes-given in
         (ap (λ (y : Sizes). y .used) e ∙ ap length front-text, ap (λ (y : Sizes). y .payload) e ∙ ap length front-out)
 
     pub plan-found : planOf d ≡ record { used = z .used; payload = z .payload; first = length ws; second = 0 }
@@ -147,11 +149,12 @@ module _ (b : List ℕ) (used : ℕ) (p : Position) (ws ds : List ℕ) (m : ℕ)
         (omega (arith, s .0, k .buffer), omega (arith, s .0, k .limit), omega (arith, k .payload), omega (arith, k .first, first-length (take used b) (p .row .0) (p .col .0) ws ds))
 
   pub rows-asked : used ≤ length b → used ≤ 16_384 → p .row .0 ≤ 1_000_000 → length ws ≤ 256 → (o l : List ℕ) → length (d .inverse .payload) ≤ length o → length ws ≤ length l
+      → (z : Sizes) → z ≡ sizesOf (take (used - 0) b) p (take (m - 0) ws) ds
       → (used ≤ length b) × (used ≤ 16_384) × (p .row .0 ≤ 1_000_000) × (length (take (m - 0) ws) ≤ 256) × (length (take (m - 0) ws) ≤ rowCount isLF (take used b) - p .row .0)
-      × (length (f .inverse .payload) ≤ length o) × (length (take (m - 0) ws) ≤ length l)
-  rows-asked hb hu hr hw o l ho hl =
+      × (length (f .inverse .payload) ≤ length o) × (length (take (m - 0) ws) ≤ length l) × (z ≡ sizesOf (take used b) p (take (m - 0) ws) ds)
+  rows-asked hb hu hr hw o l ho hl z es =
       let n = front-length in
-      (hb, hu, hr, omega (arith, rows-found), omega (arith, rows-found), rw front-out ho, omega (arith, rows-found))
+      (hb, hu, hr, omega (arith, rows-found), omega (arith, rows-found), rw front-out ho, omega (arith, rows-found), sizes-given z es)
 
   -- b₁, o₁ and l₁ are left by the loop, l₂ by the fill
   module _ (b₁ o o₁ l l₁ l₂ : List ℕ) (e : left b₁ o₁ l₁ ≡ leftBy f b used o l) where
@@ -166,7 +169,7 @@ module _ (b : List ℕ) (used : ℕ) (p : Position) (ws ds : List ℕ) (m : ℕ)
         let n : length (f .inverse .first) ≡ m = first-length (take used b) (p .row .0) (p .col .0) (take (m - 0) ws) ds ∙ front-length in
         rw front-first (e₂ ∙ ap (λ (y : List ℕ). paste y m (replicate (length ws - m) 0) (length ws - m)) (ap (λ (y : Left). y .lens) e) ∙ zeros-behind (f .inverse .first) l m (length ws - m) n)
 
-    module _ (z : Sizes) (es : z ≡ sizesOf (chunksDeleted isLF isSpace spaces (take (used - 0) b) p (take (m - 0) ws) ds)) where
+    module _ (z : Sizes) (es : z ≡ sizesOf (take (used - 0) b) p (take (m - 0) ws) ds) where
       cursor-found : clamp isLF (take (z .used - 0) b₁) p ≡ clamp isLF (d .text) p
       cursor-found = rw (sub-zero, sizes-found z es .0, text-found, renewed-text b used (d .text))
 

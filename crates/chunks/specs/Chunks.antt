@@ -1,6 +1,6 @@
 -- What the parts of a chunk delete find and leave.
 use mathlib.Core.List.{List}
-use Prim.Native.Nat.{ℕ, _+_, _-_}
+use Prim.Native.Nat.{ℕ, zero, suc, _+_, _-_}
 use lib.ListN.{length, take}
 use Rattle.text.specs.declared.Position.{Position}
 use Rattle.text.specs.Rows.{charAt, at, rowLen, rowStart, offset}
@@ -20,9 +20,21 @@ cutAt t p w d = record {
   end = charAt (rowStart isLF t (p .row .0) + rowLen isLF t (p .row .0));
 }
 
--- cut_size: how long the text and the payload of its inverse are
-abbrev pub sizesOf : Edited ℕ → Sizes
-sizesOf d = record { used = length (d .text); payload = length (d .inverse .payload) }
+-- where the last of n rows from r on ends; with no row, where the text ends
+unfoldable pub rowsEnd : List ℕ → ℕ → ℕ → ℕ
+rowsEnd t r zero = length t
+rowsEnd t r (suc n) = rowStart isLF t (r + n) + rowLen isLF t (r + n)
+
+-- cut_size: how long the text and the payload of its inverse are, where the first row starts, and where the last row that is cut ends
+abbrev pub sizesOf : List ℕ → Position → List ℕ → List ℕ → Sizes
+sizesOf t p ws ds =
+    let d = chunksDeleted isLF isSpace spaces t p ws ds in
+    record {
+      used = length (d .text);
+      payload = length (d .inverse .payload);
+      start = charAt (rowStart isLF t (p .row .0));
+      end = charAt (rowsEnd t (p .row .0) (length ws));
+    }
 
 -- cut_rows: the three slices that it writes
 pub record Left : Type 0 where

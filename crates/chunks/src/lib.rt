@@ -34,10 +34,13 @@ struct Cut {
     end: CharOffset,
 }
 
-// How long the text will be, and how long all chunks are together.
+// How long the text will be, how long all chunks are together, where the first row of the block starts and where the last row that
+// is cut ends; with no such row, where the text ends.
 struct Sizes {
     used: usize,
     payload: usize,
+    start: CharOffset,
+    end: CharOffset,
 }
 
 // A missing pad is 0.
@@ -72,13 +75,15 @@ fn cut_splice(text: &[u32], begin: CharOffset, pos: Position, width: u32, pad: u
 
 fn cut_size(text: &[u32], at: Position, widths: &[u32], pads: &[u32]) -> Sizes
     requires { ⌜ (length (now text) ≤ textLimit) × (at .row .0 ≤ 1_000_000) × (length (now widths) ≤ 256) × (length (now widths) ≤ rowCount isLF (now text) - at .row .0) ⌝ }
-    ensures { λ r. ⌜ r ≡ sizesOf (chunksDeleted isLF isSpace spaces (now (text .entry)) at (now (widths .entry)) (now (pads .entry))) ⌝ }
+    ensures { λ r. ⌜ r ≡ sizesOf (now (text .entry)) at (now (widths .entry)) (now (pads .entry)) ⌝ }
 {
     let row = at.row.0;
     let col = at.col;
     let mut gone = 0;
     let mut payload = 0;
-    let mut start = text::line_to_char(text, at.row).0;
+    let first = text::line_to_char(text, at.row);
+    let mut start = first.0;
+    let mut end = text.len();
     let mut k = 0;
     while k < widths.len() {
         let pos = Position {
@@ -88,12 +93,15 @@ fn cut_size(text: &[u32], at: Position, widths: &[u32], pads: &[u32]) -> Sizes
         let cut = cut_splice(text, CharOffset(start), pos, widths[k], pad_at(pads, k));
         gone += cut.to.0 - cut.from.0;
         payload += cut.to.0 - cut.chunk.0;
-        start = cut.end.0 + 1;
+        end = cut.end.0;
+        start = end + 1;
         k += 1;
     }
     Sizes {
         used: text.len() - gone,
         payload,
+        start: first,
+        end: CharOffset(end),
     }
 }
 
@@ -108,23 +116,24 @@ fn cut_row(text: &mut [u32], used: usize, cut: Cut, out: &mut [u32], filled: usi
     splice::remove(text, used, CharOffset(cut.from.0), CharOffset(end));
 }
 
-// Cuts the chunks out, one from each row.
+// Cuts the chunks out, one from each row. The first of the rows begins at `begin`.
 fn cut_rows(
     text: &mut [u32],
     used: usize,
+    begin: CharOffset,
     at: Position,
     widths: &[u32],
     pads: &[u32],
     out: &mut [u32],
     lens: &mut [u32],
 )
-    requires { ⌜ (used ≤ length (now text)) × (used ≤ textLimit) × (at .row .0 ≤ 1_000_000) × (length (now widths) ≤ 256) × (length (now widths) ≤ rowCount isLF (take used (now text)) - at .row .0) × (length (cutFrom (now text) used at (now widths) (now pads) .inverse .payload) ≤ length (now out)) × (length (now widths) ≤ length (now lens)) ⌝ }
+    requires { ⌜ (used ≤ length (now text)) × (used ≤ textLimit) × (at .row .0 ≤ 1_000_000) × (length (now widths) ≤ 256) × (length (now widths) ≤ rowCount isLF (take used (now text)) - at .row .0) × (length (cutFrom (now text) used at (now widths) (now pads) .inverse .payload) ≤ length (now out)) × (length (now widths) ≤ length (now lens)) × (begin .0 ≡ rowStart isLF (take used (now text)) (at .row .0)) ⌝ }
     ensures { λ _. ⌜ left (now (text .exit)) (now (out .exit)) (now (lens .exit)) ≡ leftBy (cutFrom (now (text .entry)) used at (now (widths .entry)) (now (pads .entry))) (now (text .entry)) used (now (out .entry)) (now (lens .entry)) ⌝ }
 {
     let row = at.row.0;
     let col = at.col;
     let mut long = used;
-    let mut start = text::line_to_char(&text[0..used], at.row).0;
+    let mut start = begin.0;
     let mut filled = 0;
     let mut k = 0;
     while k < widths.len() {
@@ -143,6 +152,27 @@ fn cut_rows(
         start = cut.end.0 - gone + 1;
         k += 1;
     }
+}
+
+// Cuts the chunks out of the text up to where the last of the rows ends, and then moves what is behind once.
+fn cut_block(
+    text: &mut [u32],
+    used: usize,
+    sizes: Sizes,
+    at: Position,
+    widths: &[u32],
+    pads: &[u32],
+    out: &mut [u32],
+    lens: &mut [u32],
+)
+    requires { ⌜ (used ≤ length (now text)) × (used ≤ textLimit) × (at .row .0 ≤ 1_000_000) × (length (now widths) ≤ 256) × (length (now widths) ≤ rowCount isLF (take used (now text)) - at .row .0) × (length (cutFrom (now text) used at (now widths) (now pads) .inverse .payload) ≤ length (now out)) × (length (now widths) ≤ length (now lens)) × (sizes ≡ sizesOf (take used (now text)) at (now widths) (now pads)) ⌝ }
+    ensures { λ _. ⌜ left (now (text .exit)) (now (out .exit)) (now (lens .exit)) ≡ leftBy (cutFrom (now (text .entry)) used at (now (widths .entry)) (now (pads .entry))) (now (text .entry)) used (now (out .entry)) (now (lens .entry)) ⌝ }
+{
+    let start = sizes.start;
+    let end = sizes.end.0;
+    let gone = used - sizes.used;
+    cut_rows(&mut text[0..end], end, start, at, widths, pads, out, lens);
+    splice::remove(text, used, CharOffset(end - gone), CharOffset(end));
 }
 
 pub fn delete_chunks(
@@ -173,7 +203,7 @@ pub fn delete_chunks(
     if let Verdict::Bad(why) = verdict {
         return Answer::Refused(why);
     }
-    cut_rows(text, used, at, &widths[0..rows], pads, out, lens);
+    cut_block(text, used, sizes, at, &widths[0..rows], pads, out, lens);
     splice::fill(lens, CharOffset(rows), count - rows, 0);
     let cursor = text::clamp(&text[0..size], at);
     Answer::Done(Applied {

@@ -10,7 +10,6 @@ use Rattle.chunks.proofs.cut_rows.Lts as lts
 use Rattle.chunks.proofs.cut_row.Reads as cut-row-reads
 use Rattle.chunks.proofs.cut_splice.Reads as cut-splice-reads
 use Rattle.chunks.proofs.pad_at.Reads as pad-at-reads
-use Rattle.text.proofs.line_to_char.Reads as line-to-char-reads
 
 abbrev Inv-loop : tie.InvT-loop
 Inv-loop text₀ used widths pads out₀ lens₀ row col long₀ start₀ filled₀ k₀ text out lens long start filled k = Cutting text₀ used row (col .0) widths pads out₀ lens₀ text out lens long start filled k
@@ -18,20 +17,8 @@ Inv-loop text₀ used widths pads out₀ lens₀ row col long₀ start₀ filled
 abbrev μ-loop : tie.MeasureT-loop
 μ-loop text₀ used widths pads out₀ lens₀ row col long₀ start₀ filled₀ k₀ text out lens long start filled k = length widths - k
 
-sub-line-to-char : tie.Need-sub-line-to-char Inv-loop μ-loop
-sub-line-to-char c = search needs
-
-part-line-to-char-start : tie.Need-part-line-to-char-start Inv-loop μ-loop
-part-line-to-char-start c = search needs
-
-part-line-to-char-end : tie.Need-part-line-to-char-end Inv-loop μ-loop
-part-line-to-char-end c = search needs
-
-line-to-char-requires : tie.Need-line-to-char-requires Inv-loop μ-loop
-line-to-char-requires c κs = search needs
-
 loop-holds : tie.Need-loop-holds Inv-loop μ-loop
-loop-holds c = let a = c .before .before .before .before .before .before .before .before .before .args in cutting-none (a .text .now) (a .used) (a .at .row .0) (a .at .col .0) (a .widths .now) (a .pads .now) (a .out .now) (a .lens .now) _ (c .before .before .before .before .before .before .before .before .before .pre .0) (c .line-to-char .ensures)
+loop-holds c = let a = c .before .before .before .before .before .before .args in cutting-none (a .text .now) (a .used) (a .at .row .0) (a .at .col .0) (a .widths .now) (a .pads .now) (a .out .now) (a .lens .now) _ (c .before .before .before .before .before .before .pre .0) (c .before .before .before .before .before .before .pre .7)
 
 cast-lens : tie.Need-cast-lens Inv-loop μ-loop
 cast-lens c = search needs
@@ -58,46 +45,46 @@ shared-slice-read-cut-splice : tie.Need-shared-slice-read-cut-splice Inv-loop μ
 shared-slice-read-cut-splice c = search needs
 
 cut-splice-requires : tie.Need-cut-splice-requires Inv-loop μ-loop
-cut-splice-requires c κs = splice-asked (c .before .before .before .before .before .loop .inv) (c .before .before .before .before .loop-test .taken) (c .before .before .before .before .before .before .before .before .before .before .before .before .before .before .before .pre .4) (c .before .before .before .before .before .before .before .before .before .before .before .before .before .before .before .pre .1)
+cut-splice-requires c κs = splice-asked (c .before .before .before .before .before .loop .inv) (c .before .before .before .before .loop-test .taken) (c .before .before .before .before .before .before .before .before .before .before .before .before .pre .4) (c .before .before .before .before .before .before .before .before .before .before .before .before .pre .1)
 
 cut-row-requires : tie.Need-cut-row-requires Inv-loop μ-loop
-cut-row-requires c κs = row-asked (c .before .before .before .before .before .before .before .before .loop .inv) (c .before .before .before .before .before .before .before .loop-test .taken) (c .before .before .before .before .before .before .before .before .before .before .before .before .before .before .before .before .before .before .pre .4) (c .before .before .before .before .before .before .pad-at .result) (c .before .before .before .before .before .before .pad-at .ensures) (c .before .before .cut-splice .result) (c .before .before .cut-splice .ensures) (c .before .before .before .before .before .before .before .before .before .before .before .before .before .before .before .before .before .before .pre .5)
+cut-row-requires c κs = row-asked (c .before .before .before .before .before .before .before .before .loop .inv) (c .before .before .before .before .before .before .before .loop-test .taken) (c .before .before .before .before .before .before .before .before .before .before .before .before .before .before .before .pre .4) (c .before .before .before .before .before .before .pad-at .result) (c .before .before .before .before .before .before .pad-at .ensures) (c .before .before .cut-splice .result) (c .before .before .cut-splice .ensures) (c .before .before .before .before .before .before .before .before .before .before .before .before .before .before .before .pre .5)
 
 sub-len : tie.Need-sub-len Inv-loop μ-loop
-sub-len c = let q = row-asked (c .before .before .before .before .before .before .before .before .before .before .before .before .before .before .loop .inv) (c .before .before .before .before .before .before .before .before .before .before .before .before .before .loop-test .taken) (c .before .before .before .before .before .before .before .before .before .before .before .before .before .before .before .before .before .before .before .before .before .before .before .before .pre .4) (c .before .before .before .before .before .before .before .before .before .before .before .before .pad-at .result) (c .before .before .before .before .before .before .before .before .before .before .before .before .pad-at .ensures) (c .before .before .before .before .before .before .before .before .cut-splice .result) (c .before .before .before .before .before .before .before .before .cut-splice .ensures) (c .before .before .before .before .before .before .before .before .before .before .before .before .before .before .before .before .before .before .before .before .before .before .before .before .pre .5) in q .1
+sub-len c = let q = row-asked (c .before .before .before .before .before .before .before .before .before .before .before .before .before .before .loop .inv) (c .before .before .before .before .before .before .before .before .before .before .before .before .before .loop-test .taken) (c .before .before .before .before .before .before .before .before .before .before .before .before .before .before .before .before .before .before .before .before .before .pre .4) (c .before .before .before .before .before .before .before .before .before .before .before .before .pad-at .result) (c .before .before .before .before .before .before .before .before .before .before .before .before .pad-at .ensures) (c .before .before .before .before .before .before .before .before .cut-splice .result) (c .before .before .before .before .before .before .before .before .cut-splice .ensures) (c .before .before .before .before .before .before .before .before .before .before .before .before .before .before .before .before .before .before .before .before .before .pre .5) in q .1
 
 sub-gone : tie.Need-sub-gone Inv-loop μ-loop
-sub-gone c = let q = row-asked (c .before .before .before .before .before .before .before .before .before .before .before .before .before .before .before .loop .inv) (c .before .before .before .before .before .before .before .before .before .before .before .before .before .before .loop-test .taken) (c .before .before .before .before .before .before .before .before .before .before .before .before .before .before .before .before .before .before .before .before .before .before .before .before .before .pre .4) (c .before .before .before .before .before .before .before .before .before .before .before .before .before .pad-at .result) (c .before .before .before .before .before .before .before .before .before .before .before .before .before .pad-at .ensures) (c .before .before .before .before .before .before .before .before .before .cut-splice .result) (c .before .before .before .before .before .before .before .before .before .cut-splice .ensures) (c .before .before .before .before .before .before .before .before .before .before .before .before .before .before .before .before .before .before .before .before .before .before .before .before .before .pre .5) in omega (arith, q .0, q .1)
+sub-gone c = let q = row-asked (c .before .before .before .before .before .before .before .before .before .before .before .before .before .before .before .loop .inv) (c .before .before .before .before .before .before .before .before .before .before .before .before .before .before .loop-test .taken) (c .before .before .before .before .before .before .before .before .before .before .before .before .before .before .before .before .before .before .before .before .before .before .pre .4) (c .before .before .before .before .before .before .before .before .before .before .before .before .before .pad-at .result) (c .before .before .before .before .before .before .before .before .before .before .before .before .before .pad-at .ensures) (c .before .before .before .before .before .before .before .before .before .cut-splice .result) (c .before .before .before .before .before .before .before .before .before .cut-splice .ensures) (c .before .before .before .before .before .before .before .before .before .before .before .before .before .before .before .before .before .before .before .before .before .before .pre .5) in omega (arith, q .0, q .1)
 
 cast-lens-2 : tie.Need-cast-lens-2 Inv-loop μ-loop
-cast-lens-2 c = let q = row-asked (c .before .before .before .before .before .before .before .before .before .before .before .before .before .before .before .loop .inv) (c .before .before .before .before .before .before .before .before .before .before .before .before .before .before .loop-test .taken) (c .before .before .before .before .before .before .before .before .before .before .before .before .before .before .before .before .before .before .before .before .before .before .before .before .before .pre .4) (c .before .before .before .before .before .before .before .before .before .before .before .before .before .pad-at .result) (c .before .before .before .before .before .before .before .before .before .before .before .before .before .pad-at .ensures) (c .before .before .before .before .before .before .before .before .before .cut-splice .result) (c .before .before .before .before .before .before .before .before .before .cut-splice .ensures) (c .before .before .before .before .before .before .before .before .before .before .before .before .before .before .before .before .before .before .before .before .before .before .before .before .before .pre .5) in omega (arith, q .1, q .2, c .before .before .before .before .before .before .before .before .before .before .before .before .before .before .before .loop .inv .shrunk, c .before .before .before .before .before .before .before .before .before .before .before .before .before .before .before .before .before .before .before .before .before .before .before .before .before .pre .1)
+cast-lens-2 c = let q = row-asked (c .before .before .before .before .before .before .before .before .before .before .before .before .before .before .before .loop .inv) (c .before .before .before .before .before .before .before .before .before .before .before .before .before .before .loop-test .taken) (c .before .before .before .before .before .before .before .before .before .before .before .before .before .before .before .before .before .before .before .before .before .before .pre .4) (c .before .before .before .before .before .before .before .before .before .before .before .before .before .pad-at .result) (c .before .before .before .before .before .before .before .before .before .before .before .before .before .pad-at .ensures) (c .before .before .before .before .before .before .before .before .before .cut-splice .result) (c .before .before .before .before .before .before .before .before .before .cut-splice .ensures) (c .before .before .before .before .before .before .before .before .before .before .before .before .before .before .before .before .before .before .before .before .before .before .pre .5) in omega (arith, q .1, q .2, c .before .before .before .before .before .before .before .before .before .before .before .before .before .before .before .loop .inv .shrunk, c .before .before .before .before .before .before .before .before .before .before .before .before .before .before .before .before .before .before .before .before .before .before .pre .1)
 
 mul-lens : tie.Need-mul-lens Inv-loop μ-loop
-mul-lens c = omega (arith, c .before .before .before .before .before .before .before .before .before .before .before .before .before .before .loop-test .taken, c .before .before .before .before .before .before .before .before .before .before .before .before .before .before .before .before .before .before .before .before .before .before .before .before .before .pre .3)
+mul-lens c = omega (arith, c .before .before .before .before .before .before .before .before .before .before .before .before .before .before .loop-test .taken, c .before .before .before .before .before .before .before .before .before .before .before .before .before .before .before .before .before .before .before .before .before .before .pre .3)
 
 slice-write-lens : tie.Need-slice-write-lens Inv-loop μ-loop
-slice-write-lens c = omega (arith, c .before .before .before .before .before .before .before .before .before .before .before .before .before .before .before .loop .inv .lensSize, c .before .before .before .before .before .before .before .before .before .before .before .before .before .before .loop-test .taken, c .before .before .before .before .before .before .before .before .before .before .before .before .before .before .before .before .before .before .before .before .before .before .before .before .before .pre .6)
+slice-write-lens c = omega (arith, c .before .before .before .before .before .before .before .before .before .before .before .before .before .before .before .loop .inv .lensSize, c .before .before .before .before .before .before .before .before .before .before .before .before .before .before .loop-test .taken, c .before .before .before .before .before .before .before .before .before .before .before .before .before .before .before .before .before .before .before .before .before .before .pre .6)
 
 add-filled : tie.Need-add-filled Inv-loop μ-loop
-add-filled c = omega (arith, filled-bound (c .before .before .before .before .before .before .before .before .before .before .before .before .before .before .before .loop .inv) (c .before .before .before .before .before .before .before .before .before .before .before .before .before .before .loop-test .taken) (c .before .before .before .before .before .before .before .before .before .before .before .before .before .before .before .before .before .before .before .before .before .before .before .before .before .pre .4) (c .before .before .before .before .before .before .before .before .before .before .before .before .before .pad-at .result) (c .before .before .before .before .before .before .before .before .before .before .before .before .before .pad-at .ensures) (c .before .before .before .before .before .before .before .before .before .cut-splice .result) (c .before .before .before .before .before .before .before .before .before .cut-splice .ensures) (c .before .before .before .before .before .before .before .before .before .before .before .before .before .before .before .before .before .before .before .before .before .before .before .before .before .pre .5), c .before .before .before .before .before .before .before .before .before .before .before .before .before .before .before .before .before .before .before .before .before .before .before .before .before .pre .1)
+add-filled c = omega (arith, filled-bound (c .before .before .before .before .before .before .before .before .before .before .before .before .before .before .before .loop .inv) (c .before .before .before .before .before .before .before .before .before .before .before .before .before .before .loop-test .taken) (c .before .before .before .before .before .before .before .before .before .before .before .before .before .before .before .before .before .before .before .before .before .before .pre .4) (c .before .before .before .before .before .before .before .before .before .before .before .before .before .pad-at .result) (c .before .before .before .before .before .before .before .before .before .before .before .before .before .pad-at .ensures) (c .before .before .before .before .before .before .before .before .before .cut-splice .result) (c .before .before .before .before .before .before .before .before .before .cut-splice .ensures) (c .before .before .before .before .before .before .before .before .before .before .before .before .before .before .before .before .before .before .before .before .before .before .pre .5), c .before .before .before .before .before .before .before .before .before .before .before .before .before .before .before .before .before .before .before .before .before .before .pre .1)
 
 sub-long : tie.Need-sub-long Inv-loop μ-loop
-sub-long c = let q = row-asked (c .before .before .before .before .before .before .before .before .before .before .before .before .before .before .before .loop .inv) (c .before .before .before .before .before .before .before .before .before .before .before .before .before .before .loop-test .taken) (c .before .before .before .before .before .before .before .before .before .before .before .before .before .before .before .before .before .before .before .before .before .before .before .before .before .pre .4) (c .before .before .before .before .before .before .before .before .before .before .before .before .before .pad-at .result) (c .before .before .before .before .before .before .before .before .before .before .before .before .before .pad-at .ensures) (c .before .before .before .before .before .before .before .before .before .cut-splice .result) (c .before .before .before .before .before .before .before .before .before .cut-splice .ensures) (c .before .before .before .before .before .before .before .before .before .before .before .before .before .before .before .before .before .before .before .before .before .before .before .before .before .pre .5) in omega (arith, q .0, q .1, q .2)
+sub-long c = let q = row-asked (c .before .before .before .before .before .before .before .before .before .before .before .before .before .before .before .loop .inv) (c .before .before .before .before .before .before .before .before .before .before .before .before .before .before .loop-test .taken) (c .before .before .before .before .before .before .before .before .before .before .before .before .before .before .before .before .before .before .before .before .before .before .pre .4) (c .before .before .before .before .before .before .before .before .before .before .before .before .before .pad-at .result) (c .before .before .before .before .before .before .before .before .before .before .before .before .before .pad-at .ensures) (c .before .before .before .before .before .before .before .before .before .cut-splice .result) (c .before .before .before .before .before .before .before .before .before .cut-splice .ensures) (c .before .before .before .before .before .before .before .before .before .before .before .before .before .before .before .before .before .before .before .before .before .before .pre .5) in omega (arith, q .0, q .1, q .2)
 
 sub-start : tie.Need-sub-start Inv-loop μ-loop
-sub-start c = let z = end-asked (c .before .before .before .before .before .before .before .before .before .before .before .before .before .before .before .before .loop .inv) (c .before .before .before .before .before .before .before .before .before .before .before .before .before .before .before .loop-test .taken) (c .before .before .before .before .before .before .before .before .before .before .before .before .before .before .before .before .before .before .before .before .before .before .before .before .before .before .pre .4) (c .before .before .before .before .before .before .before .before .before .before .before .before .before .before .pad-at .result) (c .before .before .before .before .before .before .before .before .before .before .before .before .before .before .pad-at .ensures) (c .before .before .before .before .before .before .before .before .before .before .cut-splice .result) (c .before .before .before .before .before .before .before .before .before .before .cut-splice .ensures) in z .0
+sub-start c = let z = end-asked (c .before .before .before .before .before .before .before .before .before .before .before .before .before .before .before .before .loop .inv) (c .before .before .before .before .before .before .before .before .before .before .before .before .before .before .before .loop-test .taken) (c .before .before .before .before .before .before .before .before .before .before .before .before .before .before .before .before .before .before .before .before .before .before .before .pre .4) (c .before .before .before .before .before .before .before .before .before .before .before .before .before .before .pad-at .result) (c .before .before .before .before .before .before .before .before .before .before .before .before .before .before .pad-at .ensures) (c .before .before .before .before .before .before .before .before .before .before .cut-splice .result) (c .before .before .before .before .before .before .before .before .before .before .cut-splice .ensures) in z .0
 
 add-start : tie.Need-add-start Inv-loop μ-loop
-add-start c = let z = end-asked (c .before .before .before .before .before .before .before .before .before .before .before .before .before .before .before .before .loop .inv) (c .before .before .before .before .before .before .before .before .before .before .before .before .before .before .before .loop-test .taken) (c .before .before .before .before .before .before .before .before .before .before .before .before .before .before .before .before .before .before .before .before .before .before .before .before .before .before .pre .4) (c .before .before .before .before .before .before .before .before .before .before .before .before .before .before .pad-at .result) (c .before .before .before .before .before .before .before .before .before .before .before .before .before .before .pad-at .ensures) (c .before .before .before .before .before .before .before .before .before .before .cut-splice .result) (c .before .before .before .before .before .before .before .before .before .before .cut-splice .ensures) in omega (arith, z .1, c .before .before .before .before .before .before .before .before .before .before .before .before .before .before .before .before .loop .inv .shrunk, c .before .before .before .before .before .before .before .before .before .before .before .before .before .before .before .before .before .before .before .before .before .before .before .before .before .before .pre .1)
+add-start c = let z = end-asked (c .before .before .before .before .before .before .before .before .before .before .before .before .before .before .before .before .loop .inv) (c .before .before .before .before .before .before .before .before .before .before .before .before .before .before .before .loop-test .taken) (c .before .before .before .before .before .before .before .before .before .before .before .before .before .before .before .before .before .before .before .before .before .before .before .pre .4) (c .before .before .before .before .before .before .before .before .before .before .before .before .before .before .pad-at .result) (c .before .before .before .before .before .before .before .before .before .before .before .before .before .before .pad-at .ensures) (c .before .before .before .before .before .before .before .before .before .before .cut-splice .result) (c .before .before .before .before .before .before .before .before .before .before .cut-splice .ensures) in omega (arith, z .1, c .before .before .before .before .before .before .before .before .before .before .before .before .before .before .before .before .loop .inv .shrunk, c .before .before .before .before .before .before .before .before .before .before .before .before .before .before .before .before .before .before .before .before .before .before .before .pre .1)
 
 add-k : tie.Need-add-k Inv-loop μ-loop
-add-k c = omega (arith, c .before .before .before .before .before .before .before .before .before .before .before .before .before .before .before .loop-test .taken, c .before .before .before .before .before .before .before .before .before .before .before .before .before .before .before .before .before .before .before .before .before .before .before .before .before .before .pre .3)
+add-k c = omega (arith, c .before .before .before .before .before .before .before .before .before .before .before .before .before .before .before .loop-test .taken, c .before .before .before .before .before .before .before .before .before .before .before .before .before .before .before .before .before .before .before .before .before .before .before .pre .3)
 
 loop-less : tie.Need-loop-less Inv-loop μ-loop
 loop-less c = search needs
 
 loop-again : tie.Need-loop-again Inv-loop μ-loop
-loop-again c = cutting-next (c .before .before .before .before .before .before .before .before .before .before .before .before .before .before .before .before .loop .inv) (c .before .before .before .before .before .before .before .before .before .before .before .before .before .before .before .loop-test .taken) (c .before .before .before .before .before .before .before .before .before .before .before .before .before .before .before .before .before .before .before .before .before .before .before .before .before .before .pre .4) (c .before .before .before .before .before .before .before .before .before .before .before .before .before .before .pad-at .result) (c .before .before .before .before .before .before .before .before .before .before .before .before .before .before .pad-at .ensures) (c .before .before .before .before .before .before .before .before .before .before .cut-splice .result) (c .before .before .before .before .before .before .before .before .before .before .cut-splice .ensures) (c .before .before .before .before .before .before .before .before .before .before .before .before .before .before .before .before .before .before .before .before .before .before .before .before .before .before .pre .5) _ _ (c .before .before .before .before .before .before .before .cut-row .ensures) (c .before .before .before .before .before .before .before .before .before .before .before .before .before .before .before .before .before .before .before .before .before .before .before .before .before .before .pre .6)
+loop-again c = cutting-next (c .before .before .before .before .before .before .before .before .before .before .before .before .before .before .before .before .loop .inv) (c .before .before .before .before .before .before .before .before .before .before .before .before .before .before .before .loop-test .taken) (c .before .before .before .before .before .before .before .before .before .before .before .before .before .before .before .before .before .before .before .before .before .before .before .pre .4) (c .before .before .before .before .before .before .before .before .before .before .before .before .before .before .pad-at .result) (c .before .before .before .before .before .before .before .before .before .before .before .before .before .before .pad-at .ensures) (c .before .before .before .before .before .before .before .before .before .before .cut-splice .result) (c .before .before .before .before .before .before .before .before .before .before .cut-splice .ensures) (c .before .before .before .before .before .before .before .before .before .before .before .before .before .before .before .before .before .before .before .before .before .before .before .pre .5) _ _ (c .before .before .before .before .before .before .before .cut-row .ensures) (c .before .before .before .before .before .before .before .before .before .before .before .before .before .before .before .before .before .before .before .before .before .before .before .pre .6)
 
 same-length : tie.Need-same-length Inv-loop μ-loop
 same-length c = search needs
@@ -117,10 +104,6 @@ cut-rows-spec =
     (tie.spec
     Inv-loop
     μ-loop
-    sub-line-to-char
-    part-line-to-char-start
-    part-line-to-char-end
-    line-to-char-requires
     loop-holds
     cast-lens
     add-lens

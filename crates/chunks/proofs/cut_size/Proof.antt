@@ -13,10 +13,10 @@ use Rattle.chunks.proofs.pad_at.Reads as pad-at-reads
 use Rattle.text.proofs.line_to_char.Reads as line-to-char-reads
 
 abbrev Inv-loop : tie.InvT-loop
-Inv-loop text widths pads row col gone₀ payload₀ start₀ k₀ gone payload start k = Sizing text row (col .0) widths pads gone payload start k
+Inv-loop text widths pads row col first gone₀ payload₀ start₀ end₀ k₀ gone payload start end k = Sizing text row (col .0) widths pads gone payload start end k
 
 abbrev μ-loop : tie.MeasureT-loop
-μ-loop text widths pads row col gone₀ payload₀ start₀ k₀ gone payload start k = length widths - k
+μ-loop text widths pads row col first gone₀ payload₀ start₀ end₀ k₀ gone payload start end k = length widths - k
 
 line-to-char-requires : tie.Need-line-to-char-requires Inv-loop μ-loop
 line-to-char-requires c κs = search needs
@@ -55,22 +55,22 @@ add-payload : tie.Need-add-payload Inv-loop μ-loop
 add-payload c = let q = sizing-bounds (sizing-next (c .before .before .before .before .before .before .loop .inv) (c .before .before .before .before .before .loop-test .taken) (c .before .before .before .before .before .before .before .before .before .before .before .before .pre .3) (c .before .before .before .pad-at .result) (c .before .before .before .pad-at .ensures) (c .before .before .cut-splice .result) (c .before .before .cut-splice .ensures)) in omega (arith, q .0, q .1, c .before .before .before .before .before .before .before .before .before .before .before .before .pre .0)
 
 add-start : tie.Need-add-start Inv-loop μ-loop
-add-start c = omega (arith, end-found (c .before .before .before .before .before .before .before .loop .inv) (c .before .before .before .before .before .before .loop-test .taken) (c .before .before .before .before .before .before .before .before .before .before .before .before .before .pre .3) (c .before .before .before .before .pad-at .result) (c .before .before .before .before .pad-at .ensures) (c .before .before .before .cut-splice .result) (c .before .before .before .cut-splice .ensures), c .before .before .before .before .before .before .before .before .before .before .before .before .before .pre .0)
+add-start c = let q = cut-order (c .before .before .before .before .before .before .loop .inv) (c .before .before .before .before .before .loop-test .taken) (c .before .before .before .before .before .before .before .before .before .before .before .before .pre .3) (c .before .before .before .pad-at .result) (c .before .before .before .pad-at .ensures) (c .before .before .cut-splice .result) (c .before .before .cut-splice .ensures) in omega (arith, end-found (c .before .before .before .before .before .before .loop .inv) (c .before .before .before .before .before .loop-test .taken) (c .before .before .before .before .before .before .before .before .before .before .before .before .pre .3) (c .before .before .before .pad-at .result) (c .before .before .before .pad-at .ensures) (c .before .before .cut-splice .result) (c .before .before .cut-splice .ensures), q .2, c .before .before .before .before .before .before .before .before .before .before .before .before .pre .0)
 
 add-k : tie.Need-add-k Inv-loop μ-loop
-add-k c = omega (arith, c .before .before .before .before .before .before .loop-test .taken, c .before .before .before .before .before .before .before .before .before .before .before .before .before .pre .2)
+add-k c = omega (arith, c .before .before .before .before .before .loop-test .taken, c .before .before .before .before .before .before .before .before .before .before .before .before .pre .2)
 
 loop-less : tie.Need-loop-less Inv-loop μ-loop
 loop-less c = search needs
 
 loop-again : tie.Need-loop-again Inv-loop μ-loop
-loop-again c = sizing-next (c .before .before .before .before .before .before .before .loop .inv) (c .before .before .before .before .before .before .loop-test .taken) (c .before .before .before .before .before .before .before .before .before .before .before .before .before .pre .3) (c .before .before .before .before .pad-at .result) (c .before .before .before .before .pad-at .ensures) (c .before .before .before .cut-splice .result) (c .before .before .before .cut-splice .ensures)
+loop-again c = sizing-next (c .before .before .before .before .before .before .loop .inv) (c .before .before .before .before .before .loop-test .taken) (c .before .before .before .before .before .before .before .before .before .before .before .before .pre .3) (c .before .before .before .pad-at .result) (c .before .before .before .pad-at .ensures) (c .before .before .cut-splice .result) (c .before .before .cut-splice .ensures)
 
-sub-t22 : tie.Need-sub-t22 Inv-loop μ-loop
-sub-t22 c = sizing-bounds (c .before .loop .inv) .0
+sub-t23 : tie.Need-sub-t23 Inv-loop μ-loop
+sub-t23 c = sizing-bounds (c .before .loop .inv) .0
 
 returns : tie.Need-returns Inv-loop μ-loop
-returns c = sizing-done (c .before .loop .inv) (omega arith)
+returns c = sizing-done (c .before .loop .inv) (c .before .before .line-to-char .result) (c .before .before .line-to-char .ensures) (omega arith)
 
 pub cut-size-spec : {M : Type 1} → statement M
 cut-size-spec =
@@ -94,5 +94,5 @@ cut-size-spec =
     add-k
     loop-less
     loop-again
-    sub-t22
+    sub-t23
     returns)

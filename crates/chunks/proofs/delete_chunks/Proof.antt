@@ -15,7 +15,7 @@ use Rattle.chunks.proofs.delete_chunks.Tie as tie
 use Rattle.chunks.proofs.delete_chunks.Reads as reads
 use Rattle.chunks.proofs.delete_chunks.Lts as lts
 use Rattle.blocks.proofs.rows_from.Reads as rows-from-reads
-use Rattle.chunks.proofs.cut_rows.Reads as cut-rows-reads
+use Rattle.chunks.proofs.cut_block.Reads as cut-block-reads
 use Rattle.chunks.proofs.cut_size.Reads as cut-size-reads
 use Rattle.plan.proofs.judge.Reads as judge-reads
 use Rattle.plan.proofs.next_view.Reads as next-view-reads
@@ -80,17 +80,17 @@ returns c = let a = c .before .before .before .before .before .before .before .b
 enum-told : tie.Need-enum-told
 enum-told c = search needs
 
-sub-cut-rows : tie.Need-sub-cut-rows
-sub-cut-rows c = search needs
+sub-cut-block : tie.Need-sub-cut-block
+sub-cut-block c = search needs
 
-part-cut-rows-start : tie.Need-part-cut-rows-start
-part-cut-rows-start c = search needs
+part-cut-block-start : tie.Need-part-cut-block-start
+part-cut-block-start c = search needs
 
-part-cut-rows-end : tie.Need-part-cut-rows-end
-part-cut-rows-end c = search needs
+part-cut-block-end : tie.Need-part-cut-block-end
+part-cut-block-end c = search needs
 
-cut-rows-requires : tie.Need-cut-rows-requires
-cut-rows-requires c κs = let a = c .before .before .before .before .before .before .before .before .before .before .before .before .before .before .before .before .before .before .before .args in let k = roomy (c .before .before .before .before) in let p = c .before .before .before .before .before .before .before .before .before .before .before .before .before .before .before .before .before .before .before .pre in rows-asked (a .text .now) (a .view .used) (a .at) (a .widths .now) (a .pads .now) (c .before .before .before .before .before .before .before .before .before .before .before .rows-from .result) (c .before .before .before .before .before .before .before .before .before .before .before .rows-from .ensures) (p .0) (p .1) (p .2) (p .3) (a .out .now) (a .lens .now) (k .2) (k .3)
+cut-block-requires : tie.Need-cut-block-requires
+cut-block-requires c κs = let a = c .before .before .before .before .before .before .before .before .before .before .before .before .before .before .before .before .before .before .before .args in let k = roomy (c .before .before .before .before) in let p = c .before .before .before .before .before .before .before .before .before .before .before .before .before .before .before .before .before .before .before .pre in rows-asked (a .text .now) (a .view .used) (a .at) (a .widths .now) (a .pads .now) (c .before .before .before .before .before .before .before .before .before .before .before .rows-from .result) (c .before .before .before .before .before .before .before .before .before .before .before .rows-from .ensures) (p .0) (p .1) (p .2) (p .3) (a .out .now) (a .lens .now) (k .2) (k .3) (c .before .before .before .before .before .before .before .cut-size .result) (c .before .before .before .before .before .before .before .cut-size .ensures)
 
 sub-fill : tie.Need-sub-fill
 sub-fill c = search needs
@@ -123,7 +123,7 @@ same-length-4 : tie.Need-same-length-4
 same-length-4 c = search needs
 
 returns-2 : tie.Need-returns-2
-returns-2 c = let a = c .before .before .before .before .before .before .before .before .before .before .before .before .before .before .before .before .before .before .before .before .before .before .before .before .before .before .before .before .before .before .before .before .before .before .args in λ x f s os e. worked-done true (a .room) (cutFrom (a .text .now) (a .view .used) (a .at) (a .widths .now) (a .pads .now)) (c .before .before .before .before .before .before .before .before .before .before .before .before .before .before .before .before .before .before .before .before .before .judge .result) (c .before .before .before .before .before .before .before .before .before .before .before .before .before .before .before .before .before .before .before .before .before .judge .ensures (cutFrom (a .text .now) (a .view .used) (a .at) (a .widths .now) (a .pads .now)) (planned (c .before .before .before .before .before .before .before .before .before .before .before .before .before .before .before .before .before .before .before .before .before))) (a .view) (lent (a .text .now) x f s (a .out .now) (a .lens .now) os) e (c .before .before .before .before .before .before .before .before .before .before .before .before .before .before .before .before .before .before .before .enum-told .given .1) _ _ _ _ _ (applied-found (a .text .now) (a .view .used) (a .at) (a .widths .now) (a .pads .now) (c .before .before .before .before .before .before .before .before .before .before .before .before .before .before .before .before .before .before .before .before .before .before .before .before .before .before .rows-from .result) (c .before .before .before .before .before .before .before .before .before .before .before .before .before .before .before .before .before .before .before .before .before .before .before .before .before .before .rows-from .ensures) (c .before .before .before .before .before .before .before .before .before .before .before .before .before .before .cut-rows .last .0) (a .out .now) (c .before .before .before .before .before .before .before .before .before .before .before .before .before .before .cut-rows .last .1 .1 .1 .1 .1 .0) (a .lens .now) (c .before .before .before .before .before .before .before .before .before .before .before .before .before .before .cut-rows .last .1 .1 .1 .1 .1 .1 .0) (c .before .before .before .before .before .before .fill .last .0) (c .before .before .before .before .before .before .before .before .before .before .before .before .before .before .cut-rows .ensures) (c .before .before .before .before .before .before .before .before .before .before .before .before .before .before .before .before .before .before .before .before .before .before .cut-size .result) (c .before .before .before .before .before .before .before .before .before .before .before .before .before .before .before .before .before .before .before .before .before .before .cut-size .ensures) (a .view) _ _ (c .before .clamp .ensures) (c .next-view .ensures)) (text-found (a .text .now) (a .view .used) (a .at) (a .widths .now) (a .pads .now) (c .before .before .before .before .before .before .before .before .before .before .before .before .before .before .before .before .before .before .before .before .before .before .before .before .before .before .rows-from .result) (c .before .before .before .before .before .before .before .before .before .before .before .before .before .before .before .before .before .before .before .before .before .before .before .before .before .before .rows-from .ensures) (c .before .before .before .before .before .before .before .before .before .before .before .before .before .before .cut-rows .last .0) (a .out .now) (c .before .before .before .before .before .before .before .before .before .before .before .before .before .before .cut-rows .last .1 .1 .1 .1 .1 .0) (a .lens .now) (c .before .before .before .before .before .before .before .before .before .before .before .before .before .before .cut-rows .last .1 .1 .1 .1 .1 .1 .0) (c .before .before .before .before .before .before .fill .last .0) (c .before .before .before .before .before .before .before .before .before .before .before .before .before .before .cut-rows .ensures)) (out-found (a .text .now) (a .view .used) (a .at) (a .widths .now) (a .pads .now) (c .before .before .before .before .before .before .before .before .before .before .before .before .before .before .before .before .before .before .before .before .before .before .before .before .before .before .rows-from .result) (c .before .before .before .before .before .before .before .before .before .before .before .before .before .before .before .before .before .before .before .before .before .before .before .before .before .before .rows-from .ensures) (c .before .before .before .before .before .before .before .before .before .before .before .before .before .before .cut-rows .last .0) (a .out .now) (c .before .before .before .before .before .before .before .before .before .before .before .before .before .before .cut-rows .last .1 .1 .1 .1 .1 .0) (a .lens .now) (c .before .before .before .before .before .before .before .before .before .before .before .before .before .before .cut-rows .last .1 .1 .1 .1 .1 .1 .0) (c .before .before .before .before .before .before .fill .last .0) (c .before .before .before .before .before .before .before .before .before .before .before .before .before .before .cut-rows .ensures)) (lens-found (a .text .now) (a .view .used) (a .at) (a .widths .now) (a .pads .now) (c .before .before .before .before .before .before .before .before .before .before .before .before .before .before .before .before .before .before .before .before .before .before .before .before .before .before .rows-from .result) (c .before .before .before .before .before .before .before .before .before .before .before .before .before .before .before .before .before .before .before .before .before .before .before .before .before .before .rows-from .ensures) (c .before .before .before .before .before .before .before .before .before .before .before .before .before .before .cut-rows .last .0) (a .out .now) (c .before .before .before .before .before .before .before .before .before .before .before .before .before .before .cut-rows .last .1 .1 .1 .1 .1 .0) (a .lens .now) (c .before .before .before .before .before .before .before .before .before .before .before .before .before .before .cut-rows .last .1 .1 .1 .1 .1 .1 .0) (c .before .before .before .before .before .before .fill .last .0) (c .before .before .before .before .before .before .before .before .before .before .before .before .before .before .cut-rows .ensures) (c .before .before .before .before .before .before .fill .ensures)) (sym (ap (λ (y : List ℕ). over y os) (second-none (take (a .view .used) (a .text .now)) (a .at) (a .widths .now) (a .pads .now))))
+returns-2 c = let a = c .before .before .before .before .before .before .before .before .before .before .before .before .before .before .before .before .before .before .before .before .before .before .before .before .before .before .before .before .before .before .before .before .before .before .args in λ x f s os e. worked-done true (a .room) (cutFrom (a .text .now) (a .view .used) (a .at) (a .widths .now) (a .pads .now)) (c .before .before .before .before .before .before .before .before .before .before .before .before .before .before .before .before .before .before .before .before .before .judge .result) (c .before .before .before .before .before .before .before .before .before .before .before .before .before .before .before .before .before .before .before .before .before .judge .ensures (cutFrom (a .text .now) (a .view .used) (a .at) (a .widths .now) (a .pads .now)) (planned (c .before .before .before .before .before .before .before .before .before .before .before .before .before .before .before .before .before .before .before .before .before))) (a .view) (lent (a .text .now) x f s (a .out .now) (a .lens .now) os) e (c .before .before .before .before .before .before .before .before .before .before .before .before .before .before .before .before .before .before .before .enum-told .given .1) _ _ _ _ _ (applied-found (a .text .now) (a .view .used) (a .at) (a .widths .now) (a .pads .now) (c .before .before .before .before .before .before .before .before .before .before .before .before .before .before .before .before .before .before .before .before .before .before .before .before .before .before .rows-from .result) (c .before .before .before .before .before .before .before .before .before .before .before .before .before .before .before .before .before .before .before .before .before .before .before .before .before .before .rows-from .ensures) (c .before .before .before .before .before .before .before .before .before .before .before .before .before .before .cut-block .last .0) (a .out .now) (c .before .before .before .before .before .before .before .before .before .before .before .before .before .before .cut-block .last .1 .1 .1 .1 .1 .1 .0) (a .lens .now) (c .before .before .before .before .before .before .before .before .before .before .before .before .before .before .cut-block .last .1 .1 .1 .1 .1 .1 .1 .0) (c .before .before .before .before .before .before .fill .last .0) (c .before .before .before .before .before .before .before .before .before .before .before .before .before .before .cut-block .ensures) (c .before .before .before .before .before .before .before .before .before .before .before .before .before .before .before .before .before .before .before .before .before .before .cut-size .result) (c .before .before .before .before .before .before .before .before .before .before .before .before .before .before .before .before .before .before .before .before .before .before .cut-size .ensures) (a .view) _ _ (c .before .clamp .ensures) (c .next-view .ensures)) (text-found (a .text .now) (a .view .used) (a .at) (a .widths .now) (a .pads .now) (c .before .before .before .before .before .before .before .before .before .before .before .before .before .before .before .before .before .before .before .before .before .before .before .before .before .before .rows-from .result) (c .before .before .before .before .before .before .before .before .before .before .before .before .before .before .before .before .before .before .before .before .before .before .before .before .before .before .rows-from .ensures) (c .before .before .before .before .before .before .before .before .before .before .before .before .before .before .cut-block .last .0) (a .out .now) (c .before .before .before .before .before .before .before .before .before .before .before .before .before .before .cut-block .last .1 .1 .1 .1 .1 .1 .0) (a .lens .now) (c .before .before .before .before .before .before .before .before .before .before .before .before .before .before .cut-block .last .1 .1 .1 .1 .1 .1 .1 .0) (c .before .before .before .before .before .before .fill .last .0) (c .before .before .before .before .before .before .before .before .before .before .before .before .before .before .cut-block .ensures)) (out-found (a .text .now) (a .view .used) (a .at) (a .widths .now) (a .pads .now) (c .before .before .before .before .before .before .before .before .before .before .before .before .before .before .before .before .before .before .before .before .before .before .before .before .before .before .rows-from .result) (c .before .before .before .before .before .before .before .before .before .before .before .before .before .before .before .before .before .before .before .before .before .before .before .before .before .before .rows-from .ensures) (c .before .before .before .before .before .before .before .before .before .before .before .before .before .before .cut-block .last .0) (a .out .now) (c .before .before .before .before .before .before .before .before .before .before .before .before .before .before .cut-block .last .1 .1 .1 .1 .1 .1 .0) (a .lens .now) (c .before .before .before .before .before .before .before .before .before .before .before .before .before .before .cut-block .last .1 .1 .1 .1 .1 .1 .1 .0) (c .before .before .before .before .before .before .fill .last .0) (c .before .before .before .before .before .before .before .before .before .before .before .before .before .before .cut-block .ensures)) (lens-found (a .text .now) (a .view .used) (a .at) (a .widths .now) (a .pads .now) (c .before .before .before .before .before .before .before .before .before .before .before .before .before .before .before .before .before .before .before .before .before .before .before .before .before .before .rows-from .result) (c .before .before .before .before .before .before .before .before .before .before .before .before .before .before .before .before .before .before .before .before .before .before .before .before .before .before .rows-from .ensures) (c .before .before .before .before .before .before .before .before .before .before .before .before .before .before .cut-block .last .0) (a .out .now) (c .before .before .before .before .before .before .before .before .before .before .before .before .before .before .cut-block .last .1 .1 .1 .1 .1 .1 .0) (a .lens .now) (c .before .before .before .before .before .before .before .before .before .before .before .before .before .before .cut-block .last .1 .1 .1 .1 .1 .1 .1 .0) (c .before .before .before .before .before .before .fill .last .0) (c .before .before .before .before .before .before .before .before .before .before .before .before .before .before .cut-block .ensures) (c .before .before .before .before .before .before .fill .ensures)) (sym (ap (λ (y : List ℕ). over y os) (second-none (take (a .view .used) (a .text .now)) (a .at) (a .widths .now) (a .pads .now))))
 
 pub delete-chunks-spec : {M : Type 1} → statement M
 delete-chunks-spec =
@@ -145,10 +145,10 @@ delete-chunks-spec =
     same-length
     returns
     enum-told
-    sub-cut-rows
-    part-cut-rows-start
-    part-cut-rows-end
-    cut-rows-requires
+    sub-cut-block
+    part-cut-block-start
+    part-cut-block-end
+    cut-block-requires
     sub-fill
     fill-requires
     sub-clamp
