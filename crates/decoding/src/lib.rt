@@ -265,30 +265,31 @@ fn fill_scalars(bytes: &[u8], out: &mut [u32])
     ensures { λ _. ⌜ now (out .exit) ≡ over (scalarsOf (reading (now (bytes .entry)))) (now (out .entry)) ⌝ }
 {
     let mut count = 0;
-    let mut at = 0;
-    while at < bytes.len() {
-        let lead = bytes[at];
+    let mut at = ByteOffset(0);
+    while at.0 < bytes.len() {
+        let start = at.0;
+        let lead = bytes[start];
         if lead <= 0x7F {
-            if starts_block(bytes, at) {
-                widen_block(bytes, at, out, count);
-                at += 16;
+            if starts_block(bytes, start) {
+                widen_block(bytes, start, out, count);
+                at = ByteOffset(start + 16);
                 count += 16;
             } else {
                 out[count] = wide(lead);
-                at += 1;
+                at = ByteOffset(start + 1);
                 count += 1;
             }
         } else if lead <= 0xDF {
-            out[count] = number_of_two(lead, bytes[at + 1]);
-            at += 2;
+            out[count] = number_of_two(lead, bytes[start + 1]);
+            at = ByteOffset(start + 2);
             count += 1;
         } else if lead <= 0xEF {
-            out[count] = number_of_three(lead, bytes[at + 1], bytes[at + 2]);
-            at += 3;
+            out[count] = number_of_three(lead, bytes[start + 1], bytes[start + 2]);
+            at = ByteOffset(start + 3);
             count += 1;
         } else {
-            out[count] = number_of_four(lead, bytes[at + 1], bytes[at + 2], bytes[at + 3]);
-            at += 4;
+            out[count] = number_of_four(lead, bytes[start + 1], bytes[start + 2], bytes[start + 3]);
+            at = ByteOffset(start + 4);
             count += 1;
         }
     }
