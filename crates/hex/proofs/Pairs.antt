@@ -11,8 +11,7 @@ use lib.Dec.{eqb}
 use lib.ListN.{length, drop, getD, drop-of-length-le}
 use lib.Seq.{drop-nil, getD-drop}
 use Rattle.promise.proofs.Bools.{both}
-use Rattle.promise.proofs.Lists.{next}
-use Rattle.utf8.proofs.Steps.{next-2}
+use Rattle.promise.proofs.Lists.{next, next-2}
 use Rattle.hex.specs.Digits.{isDigit, valueOf, digitOf, hexed, unhexed, paired}
 use Rattle.hex.proofs.Digits.{pair-byte}
 

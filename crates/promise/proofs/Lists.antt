@@ -14,6 +14,16 @@ use Rattle.promise.specs.Slices.{over}
 pub next : (s : List ℕ) (i : ℕ) → i < length s → drop i s ≡ getD s i 0 ∷ drop (i + 1) s
 next s i h = rw (add-one, drop-cons s i 0)
 
+pub next-2 : (s : List ℕ) (i : ℕ) → i + 1 < length s → drop i s ≡ getD s i 0 ∷ getD s (i + 1) 0 ∷ drop (i + 2) s
+next-2 s i h = let e : i + 2 ≡ i + 1 + 1 = omega arith in next s i (omega arith) ∙ rw (e, next s (i + 1) h)
+
+pub next-3 : (s : List ℕ) (i : ℕ) → i + 2 < length s → drop i s ≡ getD s i 0 ∷ getD s (i + 1) 0 ∷ getD s (i + 2) 0 ∷ drop (i + 3) s
+next-3 s i h = let e : i + 3 ≡ i + 2 + 1 = omega arith in next-2 s i (omega arith) ∙ rw (e, next s (i + 2) h)
+
+pub next-4 : (s : List ℕ) (i : ℕ) → i + 3 < length s
+    → drop i s ≡ getD s i 0 ∷ getD s (i + 1) 0 ∷ getD s (i + 2) 0 ∷ getD s (i + 3) 0 ∷ drop (i + 4) s
+next-4 s i h = let e : i + 4 ≡ i + 3 + 1 = omega arith in next-3 s i (omega arith) ∙ rw (e, next s (i + 3) h)
+
 -- the part from a on of a front of u elements
 pub drop-take : (a u : ℕ) (s : List ℕ) → drop a (take u s) ≡ take (u - a) (drop a s)
 drop-take zero u s = rw sub-zero

@@ -1,14 +1,14 @@
 // The strings of a frame: one alone, or a block's, each behind its length.
 use crate::FrameRead;
 use crate::Tally;
+use decoding::count_scalars;
+use decoding::decode;
 use edit::Edit;
 use edit::Refusal;
 use frame::number_at;
 use utf8::ByteOffset;
 use utf8::Decoded;
 use utf8::ScalarCount;
-use utf8::count_scalars;
-use utf8::decode;
 ghost use mathlib.Core.Path.{_≡_};
 ghost use mathlib.Core.Bool.{true};
 ghost use mathlib.Core.List.{List, [], _∷_, map, flatten};

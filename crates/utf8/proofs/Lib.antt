@@ -1,11 +1,9 @@
 pub mod Taken
 pub mod Lead
-pub mod Steps
 pub mod Numbers
 pub mod Agree
 pub mod Stores
 pub mod Readings
-pub mod Runs
 pub mod Writings
 pub mod Theorems
 pub mod Settled

@@ -1,16 +1,14 @@
 -- Character numbers: the table of section 3, row by row.
 use mathlib.Core.Path.{_≡_, refl}
-use mathlib.Core.Bool.{Bool, true, false, not, _&&_, _||_, or-true}
-use mathlib.Core.List.{List, [], _∷_}
+use mathlib.Core.Bool.{Bool, true, false, _||_, or-true}
+use mathlib.Core.List.{[], _∷_}
 use mathlib.Core.Logic.{_⊎_, inl, inr, ⊎-elim}
 use Prim.Native.Nat.{ℕ, _+_, _/_, _%_, _≤_, _<_}
 use native.Mathlib.Omega.{arith}
-use borrow.Author.Tests.{le-leb, lt-leb, leb-true, leb-false, ltb-true, not-true}
-use lib.Dec.{leb, ltb}
+use borrow.Author.Tests.{le-leb, lt-leb, leb-true, leb-false}
+use lib.Dec.{leb}
 use lib.ListN.{length}
-use Rattle.promise.specs.Paper.{done, refused}
 use Rattle.utf8.specs.Rfc3629.{within, scalar, octets}
-use Rattle.utf8.specs.Calls.{sequenceOf}
 use Rattle.promise.proofs.Bools.{both}
 
 pub within-true : (l h x : ℕ) → l ≤ x → x ≤ h → within (l, h) x ≡ true
@@ -42,9 +40,6 @@ at-most c k = go (leb c k) refl
     go true e = inl (leb-true c k e)
     go false e = inr (leb-false c k e)
 
-pub between : (l h c : ℕ) → (ltb l c && leb c h) ≡ true → (l < c) × (c ≤ h)
-between l h c e = let w = both (ltb l c) (leb c h) e in (ltb-true l c (w .0), leb-true c h (w .1))
-
 module _ (c : ℕ) where
   pub octets-1 : c ≤ 0x7F → octets c ≡ c ∷ []
   unfolding octets
@@ -62,14 +57,6 @@ module _ (c : ℕ) where
       → octets c ≡ (0b11110_000 + c / 64 / 64 / 64) ∷ (0b10_000000 + c / 64 / 64 % 64) ∷ (0b10_000000 + c / 64 % 64) ∷ (0b10_000000 + c % 64) ∷ []
   unfolding octets
   octets-4 l = rw (lt-leb c 0x7F (omega arith), lt-leb c 0x7FF (omega arith), lt-leb c 0xFFFF l)
-
-  pub sequence-good : (os : List ℕ) → scalar c ≡ true → octets c ≡ os → done os ≡ sequenceOf c
-  unfolding sequenceOf
-  sequence-good os e f = rw (e, f)
-
-  pub sequence-bad : (r : Bool) → r ≡ scalar c → not r ≡ true → refused 1 0 ≡ sequenceOf c
-  unfolding sequenceOf
-  sequence-bad r e f = rw (← e, not-true r f)
 
   -- one to four octets
   pub octets-len : (1 ≤ length (octets c)) × (length (octets c) ≤ 4)

@@ -1,15 +1,5 @@
-// UTF-8 as RFC 3629 has it: single scalars, and whole slices of them, read and written. Which scalars a text admits is
-// no part of this crate.
-mod read;
-mod write;
-
-pub use read::count_scalars;
-pub use read::decode;
-pub use read::read_scalar;
-pub use write::count_octets;
-pub use write::encode;
-pub use write::fill_octets;
-pub use write::sequence_of;
+// UTF-8 as RFC 3629 has it: its definitions and their laws, and the answers of those who read and write it. Which scalars a
+// text admits is no part of this crate.
 
 // A place in a slice of bytes.
 pub struct ByteOffset(pub usize);

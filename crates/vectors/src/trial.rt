@@ -95,7 +95,7 @@ pub(crate) fn decode_gives(bytes: &[u8], room: usize, expected: Said, written: &
     if ROOM < room {
         return false;
     }
-    let said = said_of_decoded(utf8::decode(bytes, &mut out[0..room]));
+    let said = said_of_decoded(decoding::decode(bytes, &mut out[0..room]));
     said.same(expected) && scalars_stand(&out, written)
 }
 
@@ -104,6 +104,6 @@ pub(crate) fn encode_gives(scalars: &[u32], room: usize, expected: Said, written
     if ROOM < room {
         return false;
     }
-    let said = said_of_encoded(utf8::encode(scalars, &mut out[0..room]));
+    let said = said_of_encoded(encoding::encode(scalars, &mut out[0..room]));
     said.same(expected) && bytes_stand(&out, written)
 }

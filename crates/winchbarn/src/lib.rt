@@ -1,7 +1,9 @@
 // The core's functions for C, as include/winchbarn.h declares them.
 use apply::apply_edit;
+use decoding::decode;
 use edit::Refusal;
 use edit::View;
+use encoding::encode;
 use fit::box_fit;
 use framed::apply_frame;
 use merge::merge_overlapping;
@@ -40,8 +42,6 @@ use told::told_sel_shifted;
 use told::told_shifted;
 use told::told_undoable;
 use told::told_written;
-use utf8::decode;
-use utf8::encode;
 use view::undoable;
 use writer::write_edit;
 ghost use mathlib.Core.Path.{_≡_};

@@ -1,10 +1,10 @@
 // The lists of a frame as bytes, to the front of a slice that has room for them.
 use crate::puts::put_number;
 use crate::puts::put_pair;
+use encoding::count_octets;
+use encoding::fill_octets;
 use utf8::ByteOffset;
 use utf8::OctetCount;
-use utf8::count_octets;
-use utf8::fill_octets;
 ghost use mathlib.Core.Bool.{true};
 ghost use mathlib.Core.List.{[], _∷_, _++_};
 ghost use mathlib.Core.Path.{_≡_};

@@ -1,9 +1,9 @@
 // Which edits have a frame, and how many bytes it takes.
 use edit::Edit;
+use encoding::count_octets;
 use frame::BYTE_LIMIT;
 use given::sums_to;
 use utf8::OctetCount;
-use utf8::count_octets;
 ghost use mathlib.Core.Path.{_≡_};
 ghost use Prim.Native.Nat.{min};
 ghost use lib.Dec.{leb};

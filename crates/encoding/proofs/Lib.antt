@@ -1,0 +1,4 @@
+pub mod Sequences
+pub mod Counts
+pub mod Fills
+pub mod Calls
