@@ -2,7 +2,7 @@
 use mathlib.Core.Path.{_≡_, sym, ap, _∙_}
 use mathlib.Core.Bool.{true}
 use mathlib.Core.List.{List}
-use Prim.Native.Nat.{ℕ, _-_, _≤_}
+use Prim.Native.Nat.{ℕ, _*_, _-_, _≤_}
 use native.Mathlib.Nat.{sub-zero}
 use native.Mathlib.Omega.{arith}
 use lib.ListN.{length, take, drop, length-append}
@@ -11,7 +11,7 @@ use Rattle.promise.specs.Slices.{over}
 use Rattle.utf8.specs.Calls.{Outcome, outcome}
 use Rattle.hex.specs.declared.Unhexed.{Unhexed}
 use Rattle.hex.specs.declared.Unhexed.the-variants.{Octets, BadFrame, NoRoom}
-use Rattle.hex.specs.Digits.{unhexed, lineOk}
+use Rattle.hex.specs.Digits.{digitLimit, unhexed, lineOk}
 use Rattle.hex.specs.Calls.{paperUnhexed, bytesInto}
 use Rattle.hex.proofs.Told.{told-bytes, told-bad, told-full}
 use Rattle.frame.specs.Forms.{malformed, formOf, lineForm}
@@ -36,5 +36,5 @@ module _ (l out o : List ℕ) (u : Unhexed) (e : outcome (paperUnhexed u) o ≡ 
   unfolding lineForm
   line-bad q = rw (told-bad l out o (known-as BadFrame q))
 
-  pub line-roomy : 18_432 ≤ length out → u ≡ NoRoom → ⊥
-  line-roomy h q = told-full l out o (omega arith) (known-as NoRoom q)
+  pub line-roomy : (length l ≤ digitLimit → length l ≤ 2 * length out) → u ≡ NoRoom → ⊥
+  line-roomy h q = told-full l out o h (known-as NoRoom q)

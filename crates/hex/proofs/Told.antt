@@ -48,11 +48,11 @@ module _ (l out o : List ℕ) where
   unfolding bytesInto stored
   told-bad e = bad-by (length (unhexed l)) o (over (unhexed l) out) out (lineOk l) (ltb (length out) (length (unhexed l))) e
 
-  -- a slice that holds the bytes of every line is never too short
-  pub told-full : digitLimit ≤ length out * 2 → outcome (refused 8 0) o ≡ bytesInto l out → ⊥
+  -- a slice that has room for the bytes of l, if l is no longer than a line, is not too short
+  pub told-full : (length l ≤ digitLimit → length l ≤ 2 * length out) → outcome (refused 8 0) o ≡ bytesInto l out → ⊥
   unfolding bytesInto stored
   told-full h e =
       let w = full-by (length (unhexed l)) o (over (unhexed l) out) out (lineOk l) (ltb (length out) (length (unhexed l))) e in
       let k : length l ≤ digitLimit = leb-true (length l) digitLimit (both (leb (length l) digitLimit) (paired l) (w .0) .0) in
       let f : length out < length (unhexed l) = ltb-true (length out) (length (unhexed l)) (w .1) in
-      omega (arith, unhexed-length l)
+      omega (arith, unhexed-length l, h k)

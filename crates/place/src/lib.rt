@@ -1,15 +1,18 @@
 // Whether a line is sound and stands in its place. No edit is run.
 use frame::BYTE_LIMIT;
 use frame::Head;
+use frame::SHORT_BYTES;
+use frame::SHORT_LINE;
 use frame::head_of;
 use hex::Unhexed;
 use hex::unhex;
 use select::Sel;
 use text::contains;
 ghost use mathlib.Core.Path.{_≡_};
-ghost use Prim.Native.Nat.{_≤_};
+ghost use Prim.Native.Nat.{_*_, _≤_};
 ghost use lib.ListN.{length};
 ghost use Rattle.text.specs.Text.{textLimit};
+ghost use Rattle.hex.specs.Digits.{digitLimit};
 ghost use Rattle.frame.specs.Forms.{Form, headOf, lineForm};
 ghost use Rattle.place.specs.Places.{markLimit, markOk, judged, seen};
 
@@ -55,16 +58,28 @@ impl Place {
     }
 }
 
-fn line_head(line: &[u8]) -> Head
+// The kind of a line. `bytes` has room for the line's, and is for its own use.
+fn head_in(line: &[u8], bytes: &mut [u8]) -> Head
+    requires { ⌜ (length (now line) ≤ digitLimit → length (now line) ≤ 2 * length (now bytes)) ⌝ }
     ensures { λ r. ⌜ r ≡ headOf (lineForm (now (line .entry))) ⌝ }
 {
-    let mut bytes = [0u8; BYTE_LIMIT];
-    let unhexed = unhex(line, &mut bytes);
+    let unhexed = unhex(line, bytes);
     match unhexed {
         Unhexed::Octets(count) => head_of(&bytes[0..count]),
         Unhexed::BadFrame => Head::Malformed,
         Unhexed::NoRoom => Head::Malformed,
     }
+}
+
+fn line_head(line: &[u8]) -> Head
+    ensures { λ r. ⌜ r ≡ headOf (lineForm (now (line .entry))) ⌝ }
+{
+    if line.len() <= SHORT_LINE {
+        let mut bytes = [0u8; SHORT_BYTES];
+        return head_in(line, &mut bytes);
+    }
+    let mut bytes = [0u8; BYTE_LIMIT];
+    head_in(line, &mut bytes)
 }
 
 // Whether a mark breaks none of its conditions.

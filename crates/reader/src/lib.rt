@@ -11,6 +11,8 @@ use edit::Edit;
 use edit::Refusal;
 use frame::BYTE_LIMIT;
 use frame::Head;
+use frame::SHORT_BYTES;
+use frame::SHORT_LINE;
 use frame::head_of;
 use hex::Unhexed;
 use hex::unhex;
@@ -18,9 +20,11 @@ use select::Sel;
 use utf8::ByteOffset;
 ghost use mathlib.Core.Path.{_≡_};
 ghost use mathlib.Core.List.{List, []};
-ghost use Prim.Native.Nat.{ℕ};
+ghost use Prim.Native.Nat.{ℕ, _*_, _≤_};
+ghost use lib.ListN.{length};
 ghost use Rattle.promise.specs.Paper.{done};
 ghost use Rattle.edit.specs.Edits.{whole};
+ghost use Rattle.hex.specs.Digits.{digitLimit};
 ghost use Rattle.frame.specs.declared.Head.the-variants as asHead;
 ghost use Rattle.frame.specs.Format as format;
 ghost use Rattle.frame.specs.Forms.{formOf, headOf};
@@ -93,16 +97,34 @@ fn read_bytes(bytes: &[u8], payload: &mut [u32], first: &mut [u32], second: &mut
     }
 }
 
+// The frame that a line is. `bytes` has room for the line's, and is for its own use.
+fn read_line(
+    line: &[u8],
+    bytes: &mut [u8],
+    payload: &mut [u32],
+    first: &mut [u32],
+    second: &mut [u32],
+) -> FrameRead
+    requires { ⌜ (length (now line) ≤ digitLimit → length (now line) ≤ 2 * length (now bytes)) ⌝ }
+    ensures { λ r. ⌜ filled (paperRead r) (now (payload .exit)) (now (first .exit)) (now (second .exit)) ≡ readInto (frameRead (now (line .entry))) (now (payload .entry)) (now (first .entry)) (now (second .entry)) ⌝ }
+{
+    let unhexed = unhex(line, bytes);
+    match unhexed {
+        Unhexed::Octets(count) => read_bytes(&bytes[0..count], payload, first, second),
+        Unhexed::BadFrame => FrameRead::Refused(Refusal::BadFrame),
+        // There is room, so this does not come.
+        Unhexed::NoRoom => FrameRead::Refused(Refusal::NoRoom),
+    }
+}
+
 // The frame that a line is.
 pub fn read(line: &[u8], payload: &mut [u32], first: &mut [u32], second: &mut [u32]) -> FrameRead
     ensures { λ r. ⌜ filled (paperRead r) (now (payload .exit)) (now (first .exit)) (now (second .exit)) ≡ readInto (frameRead (now (line .entry))) (now (payload .entry)) (now (first .entry)) (now (second .entry)) ⌝ }
 {
-    let mut bytes = [0u8; BYTE_LIMIT];
-    let unhexed = unhex(line, &mut bytes);
-    match unhexed {
-        Unhexed::Octets(count) => read_bytes(&bytes[0..count], payload, first, second),
-        Unhexed::BadFrame => FrameRead::Refused(Refusal::BadFrame),
-        // 36,864 digits are 18,432 bytes, so this does not come.
-        Unhexed::NoRoom => FrameRead::Refused(Refusal::NoRoom),
+    if line.len() <= SHORT_LINE {
+        let mut bytes = [0u8; SHORT_BYTES];
+        return read_line(line, &mut bytes, payload, first, second);
     }
+    let mut bytes = [0u8; BYTE_LIMIT];
+    read_line(line, &mut bytes, payload, first, second)
 }

@@ -21,7 +21,7 @@ use text::CharOffset;
 ghost use mathlib.Core.Bool.{true};
 ghost use mathlib.Core.List.{_∷_};
 ghost use mathlib.Core.Path.{_≡_};
-ghost use Prim.Native.Nat.{_≤_};
+ghost use Prim.Native.Nat.{_*_, _≤_};
 ghost use lib.ListN.{length};
 ghost use Rattle.promise.specs.Paper.{done};
 ghost use Rattle.promise.specs.Slices.{over};
@@ -38,6 +38,9 @@ ghost use Rattle.printing.specs.Prints.{printedAs};
 ghost use Rattle.loading.specs.States.{stateOf};
 ghost use Rattle.step.specs.Steps.{lentTo, ran, edited, framed};
 ghost use Rattle.step.specs.Calls.{Ready, left, leaves, carriedIn, inverseIn};
+
+// The most digits of a line that is read into small arrays.
+const SHORT_LINE: usize = 512;
 
 // What an accepted edit leaves beside its text: the marks over it, and the line of its inverse.
 fn accept(
@@ -178,21 +181,21 @@ fn run_frame(
     }
 }
 
-// A line that is an edit frame in its place.
-pub fn step_edit(
+// A line that is an edit frame in its place, read into slices that have room for it. They are for its own use.
+fn step_read(
     script: Script,
     line: &[u8],
+    payload: &mut [u32],
+    first: &mut [u32],
+    second: &mut [u32],
     text: &mut [u32],
     marks: &mut [u32],
     out: &mut [u8],
 ) -> Progress
-    requires { ⌜ Ready script (now text) (now marks) × (36_867 ≤ length (now out)) × ((e : AnEdit) × (headOf (lineForm (now line)) ≡ asHead.Edit e)) ⌝ }
+    requires { ⌜ Ready script (now text) (now marks) × (36_867 ≤ length (now out)) × ((e : AnEdit) × (headOf (lineForm (now line)) ≡ asHead.Edit e)) × ((length (now line) ≤ 2 * length (now payload)) × (length (now line) ≤ 8 * length (now first)) × (length (now line) ≤ 10 * length (now second))) ⌝ }
     ensures { λ r. ⌜ left r (now (text .exit)) (now (marks .exit)) (now (out .exit)) ≡ leaves (framed (stateOf script (now (text .entry)) (now (marks .entry))) (frameRead (now (line .entry)))) (now (marks .entry)) (now (out .entry)) ⌝ }
 {
-    let mut payload = [0u32; BYTE_LIMIT];
-    let mut first = [0u32; 4_608];
-    let mut second = [0u32; 3_687];
-    let frame = read(line, &mut payload, &mut first, &mut second);
+    let frame = read(line, payload, first, second);
     match frame {
         FrameRead::Edit {
             edit,
@@ -213,4 +216,46 @@ pub fn step_edit(
         FrameRead::Text(_) => refuse(script, Refusal::BadFrame, out),
         FrameRead::Mark(_) => refuse(script, Refusal::BadFrame, out),
     }
+}
+
+// A line that is an edit frame in its place.
+pub fn step_edit(
+    script: Script,
+    line: &[u8],
+    text: &mut [u32],
+    marks: &mut [u32],
+    out: &mut [u8],
+) -> Progress
+    requires { ⌜ Ready script (now text) (now marks) × (36_867 ≤ length (now out)) × ((e : AnEdit) × (headOf (lineForm (now line)) ≡ asHead.Edit e)) ⌝ }
+    ensures { λ r. ⌜ left r (now (text .exit)) (now (marks .exit)) (now (out .exit)) ≡ leaves (framed (stateOf script (now (text .entry)) (now (marks .entry))) (frameRead (now (line .entry)))) (now (marks .entry)) (now (out .entry)) ⌝ }
+{
+    // Nearly all lines are short, and clearing the large arrays takes longer than all the rest.
+    if line.len() <= SHORT_LINE {
+        let mut payload = [0u32; 256];
+        let mut first = [0u32; 64];
+        let mut second = [0u32; 52];
+        return step_read(
+            script,
+            line,
+            &mut payload,
+            &mut first,
+            &mut second,
+            text,
+            marks,
+            out,
+        );
+    }
+    let mut payload = [0u32; BYTE_LIMIT];
+    let mut first = [0u32; 4_608];
+    let mut second = [0u32; 3_687];
+    step_read(
+        script,
+        line,
+        &mut payload,
+        &mut first,
+        &mut second,
+        text,
+        marks,
+        out,
+    )
 }

@@ -1,6 +1,6 @@
 use Prim.Native.Nat.{ℕ}
 use lib.ListN.{replicate}
-use Rattle.reader.proofs.EditLines.{zeros-long, edit-modest, read-edit, read-refused, no-text, no-mark}
+use Rattle.reader.proofs.EditLines.{line-fits, zeros-roomy, read-edit, read-refused, no-text, no-mark}
 use Rattle.frame.specs.Reads.{frameRead}
 use Rattle.framed.proofs.AmongEdits.{held-applied, refusal-applied}
 use native.Mathlib.Omega.{arith}
@@ -30,7 +30,7 @@ part-apply-edit-start : tie.Need-part-apply-edit-start
 part-apply-edit-start c = search needs
 
 part-apply-edit-end : tie.Need-part-apply-edit-end
-part-apply-edit-end c = read-edit (replicate {A = ℕ} 18_432 0) (replicate {A = ℕ} 4_608 0) (replicate {A = ℕ} 3_687 0) _ _ _ (zeros-long 18_432) (zeros-long 4_608) (zeros-long 3_687) (frameRead (c .before .before .before .before .before .before .before .before .before .before .before .before .before .before .before .before .before .args .line .now)) (edit-modest (c .before .before .before .before .before .before .before .before .before .before .before .before .before .before .before .before .before .args .line .now) (c .before .before .before .before .before .before .before .before .before .before .before .before .before .before .before .before .before .pre .0) (c .before .before .before .before .before .before .before .before .before .before .before .before .before .before .before .before .before .pre .1)) (c .before .before .before .frame .given .0 .0) (c .before .before .before .frame .given .0 .1 .0) (c .before .before .before .frame .given .0 .1 .1 .0) (c .before .before .before .frame .given .0 .1 .1 .1 .0) (rw (c .before .before .before .frame .given .1) at (c .before .before .before .before .before .before .before .before .read .ensures)) .0
+part-apply-edit-end c = read-edit (replicate {A = ℕ} 18_432 0) (replicate {A = ℕ} 4_608 0) (replicate {A = ℕ} 3_687 0) _ _ _ (frameRead (c .before .before .before .before .before .before .before .before .before .before .before .before .before .before .before .before .before .args .line .now)) (line-fits (c .before .before .before .before .before .before .before .before .before .before .before .before .before .before .before .before .before .args .line .now) (c .before .before .before .before .before .before .before .before .before .before .before .before .before .before .before .before .before .pre .0) (c .before .before .before .before .before .before .before .before .before .before .before .before .before .before .before .before .before .pre .1) _ _ _ (zeros-roomy (c .before .before .before .before .before .before .before .before .before .before .before .before .before .before .before .before .before .args .line .now) (c .before .before .before .before .before .before .before .before .before .before .before .before .before .before .before .before .before .pre .0) (c .before .before .before .before .before .before .before .before .before .before .before .before .before .before .before .before .before .pre .1))) (c .before .before .before .frame .given .0 .0) (c .before .before .before .frame .given .0 .1 .0) (c .before .before .before .frame .given .0 .1 .1 .0) (c .before .before .before .frame .given .0 .1 .1 .1 .0) (rw (c .before .before .before .frame .given .1) at (c .before .before .before .before .before .before .before .before .read .ensures)) .0
 
 sub-apply-edit-2 : tie.Need-sub-apply-edit-2
 sub-apply-edit-2 c = search needs
@@ -39,7 +39,7 @@ part-apply-edit-start-2 : tie.Need-part-apply-edit-start-2
 part-apply-edit-start-2 c = search needs
 
 part-apply-edit-end-2 : tie.Need-part-apply-edit-end-2
-part-apply-edit-end-2 c = read-edit (replicate {A = ℕ} 18_432 0) (replicate {A = ℕ} 4_608 0) (replicate {A = ℕ} 3_687 0) _ _ _ (zeros-long 18_432) (zeros-long 4_608) (zeros-long 3_687) (frameRead (c .before .before .before .before .before .before .before .before .before .before .before .before .before .before .before .before .before .before .before .args .line .now)) (edit-modest (c .before .before .before .before .before .before .before .before .before .before .before .before .before .before .before .before .before .before .before .args .line .now) (c .before .before .before .before .before .before .before .before .before .before .before .before .before .before .before .before .before .before .before .pre .0) (c .before .before .before .before .before .before .before .before .before .before .before .before .before .before .before .before .before .before .before .pre .1)) (c .before .before .before .before .before .frame .given .0 .0) (c .before .before .before .before .before .frame .given .0 .1 .0) (c .before .before .before .before .before .frame .given .0 .1 .1 .0) (c .before .before .before .before .before .frame .given .0 .1 .1 .1 .0) (rw (c .before .before .before .before .before .frame .given .1) at (c .before .before .before .before .before .before .before .before .before .before .read .ensures)) .1
+part-apply-edit-end-2 c = read-edit (replicate {A = ℕ} 18_432 0) (replicate {A = ℕ} 4_608 0) (replicate {A = ℕ} 3_687 0) _ _ _ (frameRead (c .before .before .before .before .before .before .before .before .before .before .before .before .before .before .before .before .before .before .before .args .line .now)) (line-fits (c .before .before .before .before .before .before .before .before .before .before .before .before .before .before .before .before .before .before .before .args .line .now) (c .before .before .before .before .before .before .before .before .before .before .before .before .before .before .before .before .before .before .before .pre .0) (c .before .before .before .before .before .before .before .before .before .before .before .before .before .before .before .before .before .before .before .pre .1) _ _ _ (zeros-roomy (c .before .before .before .before .before .before .before .before .before .before .before .before .before .before .before .before .before .before .before .args .line .now) (c .before .before .before .before .before .before .before .before .before .before .before .before .before .before .before .before .before .before .before .pre .0) (c .before .before .before .before .before .before .before .before .before .before .before .before .before .before .before .before .before .before .before .pre .1))) (c .before .before .before .before .before .frame .given .0 .0) (c .before .before .before .before .before .frame .given .0 .1 .0) (c .before .before .before .before .before .frame .given .0 .1 .1 .0) (c .before .before .before .before .before .frame .given .0 .1 .1 .1 .0) (rw (c .before .before .before .before .before .frame .given .1) at (c .before .before .before .before .before .before .before .before .before .before .read .ensures)) .1
 
 sub-apply-edit-3 : tie.Need-sub-apply-edit-3
 sub-apply-edit-3 c = search needs
@@ -48,7 +48,7 @@ part-apply-edit-start-3 : tie.Need-part-apply-edit-start-3
 part-apply-edit-start-3 c = search needs
 
 part-apply-edit-end-3 : tie.Need-part-apply-edit-end-3
-part-apply-edit-end-3 c = read-edit (replicate {A = ℕ} 18_432 0) (replicate {A = ℕ} 4_608 0) (replicate {A = ℕ} 3_687 0) _ _ _ (zeros-long 18_432) (zeros-long 4_608) (zeros-long 3_687) (frameRead (c .before .before .before .before .before .before .before .before .before .before .before .before .before .before .before .before .before .before .before .before .before .args .line .now)) (edit-modest (c .before .before .before .before .before .before .before .before .before .before .before .before .before .before .before .before .before .before .before .before .before .args .line .now) (c .before .before .before .before .before .before .before .before .before .before .before .before .before .before .before .before .before .before .before .before .before .pre .0) (c .before .before .before .before .before .before .before .before .before .before .before .before .before .before .before .before .before .before .before .before .before .pre .1)) (c .before .before .before .before .before .before .before .frame .given .0 .0) (c .before .before .before .before .before .before .before .frame .given .0 .1 .0) (c .before .before .before .before .before .before .before .frame .given .0 .1 .1 .0) (c .before .before .before .before .before .before .before .frame .given .0 .1 .1 .1 .0) (rw (c .before .before .before .before .before .before .before .frame .given .1) at (c .before .before .before .before .before .before .before .before .before .before .before .before .read .ensures)) .2
+part-apply-edit-end-3 c = read-edit (replicate {A = ℕ} 18_432 0) (replicate {A = ℕ} 4_608 0) (replicate {A = ℕ} 3_687 0) _ _ _ (frameRead (c .before .before .before .before .before .before .before .before .before .before .before .before .before .before .before .before .before .before .before .before .before .args .line .now)) (line-fits (c .before .before .before .before .before .before .before .before .before .before .before .before .before .before .before .before .before .before .before .before .before .args .line .now) (c .before .before .before .before .before .before .before .before .before .before .before .before .before .before .before .before .before .before .before .before .before .pre .0) (c .before .before .before .before .before .before .before .before .before .before .before .before .before .before .before .before .before .before .before .before .before .pre .1) _ _ _ (zeros-roomy (c .before .before .before .before .before .before .before .before .before .before .before .before .before .before .before .before .before .before .before .before .before .args .line .now) (c .before .before .before .before .before .before .before .before .before .before .before .before .before .before .before .before .before .before .before .before .before .pre .0) (c .before .before .before .before .before .before .before .before .before .before .before .before .before .before .before .before .before .before .before .before .before .pre .1))) (c .before .before .before .before .before .before .before .frame .given .0 .0) (c .before .before .before .before .before .before .before .frame .given .0 .1 .0) (c .before .before .before .before .before .before .before .frame .given .0 .1 .1 .0) (c .before .before .before .before .before .before .before .frame .given .0 .1 .1 .1 .0) (rw (c .before .before .before .before .before .before .before .frame .given .1) at (c .before .before .before .before .before .before .before .before .before .before .before .before .read .ensures)) .2
 
 apply-edit-requires : tie.Need-apply-edit-requires
 apply-edit-requires c κs = search needs
@@ -75,16 +75,16 @@ same-length-4 : tie.Need-same-length-4
 same-length-4 c = search needs
 
 returns : tie.Need-returns
-returns c = held-applied (frameRead (c .before .before .before .before .before .before .before .before .before .before .before .before .before .before .before .before .before .before .before .before .before .before .before .before .before .before .before .before .before .before .before .before .before .before .args .line .now)) (c .before .before .before .before .before .before .before .before .before .before .before .before .before .before .before .before .before .before .before .before .before .before .before .before .before .before .before .before .before .before .before .before .before .before .args .view) (c .before .before .before .before .before .before .before .before .before .before .before .before .before .before .before .before .before .before .before .before .before .before .before .before .before .before .before .before .before .before .before .before .before .before .args .text .now) (c .before .before .before .before .before .before .before .before .before .before .before .before .before .before .before .before .before .before .before .before .before .before .before .before .before .before .before .before .before .before .before .before .before .before .args .outpayload .now) (c .before .before .before .before .before .before .before .before .before .before .before .before .before .before .before .before .before .before .before .before .before .before .before .before .before .before .before .before .before .before .before .before .before .before .args .outfirst .now) (c .before .before .before .before .before .before .before .before .before .before .before .before .before .before .before .before .before .before .before .before .before .before .before .before .before .before .before .before .before .before .before .before .before .before .args .outsecond .now) (c .before .before .before .before .before .before .before .before .before .before .before .before .before .before .before .before .before .before .before .before .frame .given .0 .0) _ (c .before .before .before .before .before .before .before .before .before .before .before .before .before .before .before .before .before .before .before .before .frame .given .0 .1 .0) _ (c .before .before .before .before .before .before .before .before .before .before .before .before .before .before .before .before .before .before .before .before .frame .given .0 .1 .1 .0) _ (c .before .before .before .before .before .before .before .before .before .before .before .before .before .before .before .before .before .before .before .before .frame .given .0 .1 .1 .1 .0) (read-edit (replicate {A = ℕ} 18_432 0) (replicate {A = ℕ} 4_608 0) (replicate {A = ℕ} 3_687 0) _ _ _ (zeros-long 18_432) (zeros-long 4_608) (zeros-long 3_687) (frameRead (c .before .before .before .before .before .before .before .before .before .before .before .before .before .before .before .before .before .before .before .before .before .before .before .before .before .before .before .before .before .before .before .before .before .before .args .line .now)) (edit-modest (c .before .before .before .before .before .before .before .before .before .before .before .before .before .before .before .before .before .before .before .before .before .before .before .before .before .before .before .before .before .before .before .before .before .before .args .line .now) (c .before .before .before .before .before .before .before .before .before .before .before .before .before .before .before .before .before .before .before .before .before .before .before .before .before .before .before .before .before .before .before .before .before .before .pre .0) (c .before .before .before .before .before .before .before .before .before .before .before .before .before .before .before .before .before .before .before .before .before .before .before .before .before .before .before .before .before .before .before .before .before .before .pre .1)) (c .before .before .before .before .before .before .before .before .before .before .before .before .before .before .before .before .before .before .before .before .frame .given .0 .0) (c .before .before .before .before .before .before .before .before .before .before .before .before .before .before .before .before .before .before .before .before .frame .given .0 .1 .0) (c .before .before .before .before .before .before .before .before .before .before .before .before .before .before .before .before .before .before .before .before .frame .given .0 .1 .1 .0) (c .before .before .before .before .before .before .before .before .before .before .before .before .before .before .before .before .before .before .before .before .frame .given .0 .1 .1 .1 .0) (rw (c .before .before .before .before .before .before .before .before .before .before .before .before .before .before .before .before .before .before .before .before .frame .given .1) at (c .before .before .before .before .before .before .before .before .before .before .before .before .before .before .before .before .before .before .before .before .before .before .before .before .before .read .ensures))) _ (c .before .before .before .before .before .before .before .before .apply-edit .ensures)
+returns c = held-applied (frameRead (c .before .before .before .before .before .before .before .before .before .before .before .before .before .before .before .before .before .before .before .before .before .before .before .before .before .before .before .before .before .before .before .before .before .before .args .line .now)) (c .before .before .before .before .before .before .before .before .before .before .before .before .before .before .before .before .before .before .before .before .before .before .before .before .before .before .before .before .before .before .before .before .before .before .args .view) (c .before .before .before .before .before .before .before .before .before .before .before .before .before .before .before .before .before .before .before .before .before .before .before .before .before .before .before .before .before .before .before .before .before .before .args .text .now) (c .before .before .before .before .before .before .before .before .before .before .before .before .before .before .before .before .before .before .before .before .before .before .before .before .before .before .before .before .before .before .before .before .before .before .args .outpayload .now) (c .before .before .before .before .before .before .before .before .before .before .before .before .before .before .before .before .before .before .before .before .before .before .before .before .before .before .before .before .before .before .before .before .before .before .args .outfirst .now) (c .before .before .before .before .before .before .before .before .before .before .before .before .before .before .before .before .before .before .before .before .before .before .before .before .before .before .before .before .before .before .before .before .before .before .args .outsecond .now) (c .before .before .before .before .before .before .before .before .before .before .before .before .before .before .before .before .before .before .before .before .frame .given .0 .0) _ (c .before .before .before .before .before .before .before .before .before .before .before .before .before .before .before .before .before .before .before .before .frame .given .0 .1 .0) _ (c .before .before .before .before .before .before .before .before .before .before .before .before .before .before .before .before .before .before .before .before .frame .given .0 .1 .1 .0) _ (c .before .before .before .before .before .before .before .before .before .before .before .before .before .before .before .before .before .before .before .before .frame .given .0 .1 .1 .1 .0) (read-edit (replicate {A = ℕ} 18_432 0) (replicate {A = ℕ} 4_608 0) (replicate {A = ℕ} 3_687 0) _ _ _ (frameRead (c .before .before .before .before .before .before .before .before .before .before .before .before .before .before .before .before .before .before .before .before .before .before .before .before .before .before .before .before .before .before .before .before .before .before .args .line .now)) (line-fits (c .before .before .before .before .before .before .before .before .before .before .before .before .before .before .before .before .before .before .before .before .before .before .before .before .before .before .before .before .before .before .before .before .before .before .args .line .now) (c .before .before .before .before .before .before .before .before .before .before .before .before .before .before .before .before .before .before .before .before .before .before .before .before .before .before .before .before .before .before .before .before .before .before .pre .0) (c .before .before .before .before .before .before .before .before .before .before .before .before .before .before .before .before .before .before .before .before .before .before .before .before .before .before .before .before .before .before .before .before .before .before .pre .1) _ _ _ (zeros-roomy (c .before .before .before .before .before .before .before .before .before .before .before .before .before .before .before .before .before .before .before .before .before .before .before .before .before .before .before .before .before .before .before .before .before .before .args .line .now) (c .before .before .before .before .before .before .before .before .before .before .before .before .before .before .before .before .before .before .before .before .before .before .before .before .before .before .before .before .before .before .before .before .before .before .pre .0) (c .before .before .before .before .before .before .before .before .before .before .before .before .before .before .before .before .before .before .before .before .before .before .before .before .before .before .before .before .before .before .before .before .before .before .pre .1))) (c .before .before .before .before .before .before .before .before .before .before .before .before .before .before .before .before .before .before .before .before .frame .given .0 .0) (c .before .before .before .before .before .before .before .before .before .before .before .before .before .before .before .before .before .before .before .before .frame .given .0 .1 .0) (c .before .before .before .before .before .before .before .before .before .before .before .before .before .before .before .before .before .before .before .before .frame .given .0 .1 .1 .0) (c .before .before .before .before .before .before .before .before .before .before .before .before .before .before .before .before .before .before .before .before .frame .given .0 .1 .1 .1 .0) (rw (c .before .before .before .before .before .before .before .before .before .before .before .before .before .before .before .before .before .before .before .before .frame .given .1) at (c .before .before .before .before .before .before .before .before .before .before .before .before .before .before .before .before .before .before .before .before .before .before .before .before .before .read .ensures))) _ (c .before .before .before .before .before .before .before .before .apply-edit .ensures)
 
 returns-2 : tie.Need-returns-2
-returns-2 c = refusal-applied (frameRead (c .before .before .before .before .before .before .before .before .before .before .before .before .before .before .before .args .line .now)) (c .before .before .before .before .before .before .before .before .before .before .before .before .before .before .before .args .view) (c .before .before .before .before .before .before .before .before .before .before .before .before .before .before .before .args .text .now) (c .before .before .before .before .before .before .before .before .before .before .before .before .before .before .before .args .outpayload .now) (c .before .before .before .before .before .before .before .before .before .before .before .before .before .before .before .args .outfirst .now) (c .before .before .before .before .before .before .before .before .before .before .before .before .before .before .before .args .outsecond .now) _ _ (read-refused (replicate {A = ℕ} 18_432 0) (replicate {A = ℕ} 4_608 0) (replicate {A = ℕ} 3_687 0) _ _ _ (zeros-long 18_432) (zeros-long 4_608) (zeros-long 3_687) (frameRead (c .before .before .before .before .before .before .before .before .before .before .before .before .before .before .before .args .line .now)) (edit-modest (c .before .before .before .before .before .before .before .before .before .before .before .before .before .before .before .args .line .now) (c .before .before .before .before .before .before .before .before .before .before .before .before .before .before .before .pre .0) (c .before .before .before .before .before .before .before .before .before .before .before .before .before .before .before .pre .1)) _ _ (rw (c .before .frame2 .given .1) at (c .before .before .before .before .before .before .read .ensures)))
+returns-2 c = refusal-applied (frameRead (c .before .before .before .before .before .before .before .before .before .before .before .before .before .before .before .args .line .now)) (c .before .before .before .before .before .before .before .before .before .before .before .before .before .before .before .args .view) (c .before .before .before .before .before .before .before .before .before .before .before .before .before .before .before .args .text .now) (c .before .before .before .before .before .before .before .before .before .before .before .before .before .before .before .args .outpayload .now) (c .before .before .before .before .before .before .before .before .before .before .before .before .before .before .before .args .outfirst .now) (c .before .before .before .before .before .before .before .before .before .before .before .before .before .before .before .args .outsecond .now) _ _ (read-refused (replicate {A = ℕ} 18_432 0) (replicate {A = ℕ} 4_608 0) (replicate {A = ℕ} 3_687 0) _ _ _ (frameRead (c .before .before .before .before .before .before .before .before .before .before .before .before .before .before .before .args .line .now)) (line-fits (c .before .before .before .before .before .before .before .before .before .before .before .before .before .before .before .args .line .now) (c .before .before .before .before .before .before .before .before .before .before .before .before .before .before .before .pre .0) (c .before .before .before .before .before .before .before .before .before .before .before .before .before .before .before .pre .1) _ _ _ (zeros-roomy (c .before .before .before .before .before .before .before .before .before .before .before .before .before .before .before .args .line .now) (c .before .before .before .before .before .before .before .before .before .before .before .before .before .before .before .pre .0) (c .before .before .before .before .before .before .before .before .before .before .before .before .before .before .before .pre .1))) _ _ (rw (c .before .frame2 .given .1) at (c .before .before .before .before .before .before .read .ensures)))
 
 returns-3 : tie.Need-returns-3
-returns-3 c = absurd (no-text (replicate {A = ℕ} 18_432 0) (replicate {A = ℕ} 4_608 0) (replicate {A = ℕ} 3_687 0) _ _ _ (zeros-long 18_432) (zeros-long 4_608) (zeros-long 3_687) (frameRead (c .before .before .before .before .before .before .before .before .before .before .before .before .before .before .args .line .now)) (edit-modest (c .before .before .before .before .before .before .before .before .before .before .before .before .before .before .args .line .now) (c .before .before .before .before .before .before .before .before .before .before .before .before .before .before .pre .0) (c .before .before .before .before .before .before .before .before .before .before .before .before .before .before .pre .1)) _ (rw (c .enum-told .given .1) at (c .before .before .before .before .before .read .ensures)))
+returns-3 c = absurd (no-text (replicate {A = ℕ} 18_432 0) (replicate {A = ℕ} 4_608 0) (replicate {A = ℕ} 3_687 0) _ _ _ (frameRead (c .before .before .before .before .before .before .before .before .before .before .before .before .before .before .args .line .now)) (line-fits (c .before .before .before .before .before .before .before .before .before .before .before .before .before .before .args .line .now) (c .before .before .before .before .before .before .before .before .before .before .before .before .before .before .pre .0) (c .before .before .before .before .before .before .before .before .before .before .before .before .before .before .pre .1) _ _ _ (zeros-roomy (c .before .before .before .before .before .before .before .before .before .before .before .before .before .before .args .line .now) (c .before .before .before .before .before .before .before .before .before .before .before .before .before .before .pre .0) (c .before .before .before .before .before .before .before .before .before .before .before .before .before .before .pre .1))) _ (rw (c .enum-told .given .1) at (c .before .before .before .before .before .read .ensures)))
 
 returns-4 : tie.Need-returns-4
-returns-4 c = absurd (no-mark (replicate {A = ℕ} 18_432 0) (replicate {A = ℕ} 4_608 0) (replicate {A = ℕ} 3_687 0) _ _ _ (zeros-long 18_432) (zeros-long 4_608) (zeros-long 3_687) (frameRead (c .before .before .before .before .before .before .before .before .before .before .before .before .before .before .args .line .now)) (edit-modest (c .before .before .before .before .before .before .before .before .before .before .before .before .before .before .args .line .now) (c .before .before .before .before .before .before .before .before .before .before .before .before .before .before .pre .0) (c .before .before .before .before .before .before .before .before .before .before .before .before .before .before .pre .1)) _ (rw (c .enum-told2 .given .1) at (c .before .before .before .before .before .read .ensures)))
+returns-4 c = absurd (no-mark (replicate {A = ℕ} 18_432 0) (replicate {A = ℕ} 4_608 0) (replicate {A = ℕ} 3_687 0) _ _ _ (frameRead (c .before .before .before .before .before .before .before .before .before .before .before .before .before .before .args .line .now)) (line-fits (c .before .before .before .before .before .before .before .before .before .before .before .before .before .before .args .line .now) (c .before .before .before .before .before .before .before .before .before .before .before .before .before .before .pre .0) (c .before .before .before .before .before .before .before .before .before .before .before .before .before .before .pre .1) _ _ _ (zeros-roomy (c .before .before .before .before .before .before .before .before .before .before .before .before .before .before .args .line .now) (c .before .before .before .before .before .before .before .before .before .before .before .before .before .before .pre .0) (c .before .before .before .before .before .before .before .before .before .before .before .before .before .before .pre .1))) _ (rw (c .enum-told2 .given .1) at (c .before .before .before .before .before .read .ensures)))
 
 pub apply-edit-line-spec : {M : Type 1} → statement M
 apply-edit-line-spec =
