@@ -11,7 +11,7 @@ use lib.Seq.{paste, slice, take-all, take-append-le, drop-drop, drop-append-le, 
 use Rattle.promise.proofs.Lists.{next, drop-take}
 use Rattle.text.specs.declared.CharOffset.{CharOffset}
 use Rattle.text.specs.declared.Position.{Position}
-use Rattle.text.specs.Rows.{Line, line, lines, unlines, at, rowCount, lastRow, rowLen, rowStart, offset, spliced, charAt}
+use Rattle.text.specs.Rows.{Line, line, lines, unlines, at, rowCount, lastRow, rowLen, rowStart, rowEnd, offset, spliced, charAt}
 use Rattle.text.specs.Text.{isLF}
 use Rattle.text.proofs.Spots.{offset-le, offset-row}
 use Rattle.text.proofs.Changes.{rowOf, row-from, text-around}
@@ -21,9 +21,10 @@ use Rattle.edit.specs.Edits.{Edited, cutAll, chunksOf, chunksDeleted}
 use Rattle.edit.specs.Refusals.{isSpace, spaces}
 use Rattle.edit.proofs.Blocks.{chunksOf-length, chunks-le}
 use Rattle.edit.proofs.Sizes.{loss, chunksDeleted-length}
+use Rattle.blocks.specs.Blocks.{lastEnd}
 use Rattle.blocks.proofs.Starts.{plain-none, scan-row, start-turned, row-there, Begins, begins-first, begins-next, end-within}
 use Rattle.chunks.specs.declared.Cut.{Cut}
-use Rattle.chunks.specs.Chunks.{cutAt, rowsEnd, sizesOf}
+use Rattle.chunks.specs.Chunks.{cutAt, sizesOf}
 
 abbrev pub deleted : List ℕ → ℕ → ℕ → List ℕ → List ℕ → Edited ℕ
 deleted t r c ws ds = chunksDeleted isLF isSpace spaces t (at r c) ws ds
@@ -214,12 +215,11 @@ module _ (t : List ℕ) (r c k : ℕ) (ws ds : List ℕ) (h : k < length ws) (l 
 pub record Sizing (t : List ℕ) (r c : ℕ) (ws ds : List ℕ) (gone payload start end k : ℕ) : Type 0 where
   pub within : k ≤ length ws
   pub begins : Begins t r (length ws) k start
-  pub ends : end ≡ rowsEnd t r k
+  pub ends : end ≡ lastEnd t r k
   pub less : gone + loss c (drop k ws) (drop k ds) (drop (r + k) (lines isLF t)) ≡ loss c ws ds (drop r (lines isLF t))
   pub more : payload + taken c (drop k ws) (drop (r + k) (lines isLF t)) ≡ taken c ws (drop r (lines isLF t))
 
 pub sizing-none : (t : List ℕ) (r c : ℕ) (ws ds : List ℕ) (start : ℕ) → start ≡ rowStart isLF t r → Sizing t r c ws ds 0 0 start (length t) 0
-unfolding rowsEnd
 sizing-none t r c ws ds start e = record { within = omega arith; begins = begins-first t r (length ws) start e; ends = refl; less = rw (add-zero, zero-add); more = rw (add-zero, zero-add) }
 
 module _ {t : List ℕ} {r c : ℕ} {ws ds : List ℕ} {gone payload start end k : ℕ} (s : Sizing t r c ws ds gone payload start end k) (h : k < length ws) (there : length ws ≤ rowCount isLF t - r)
@@ -248,9 +248,8 @@ module _ {t : List ℕ} {r c : ℕ} {ws ds : List ℕ} {gone payload start end k
   end-found = end-within t r k (cut .end .0) (ap (λ (z : Cut). z .end .0) cut-here)
 
   pub sizing-next : Sizing t r c ws ds (gone + (cut .to .0 - cut .from .0)) (payload + (cut .to .0 - cut .chunk .0)) (cut .end .0 + 1) (cut .end .0) (k + 1)
-  unfolding rowsEnd
   sizing-next =
-      let q : cut .end .0 ≡ rowStart isLF t (r + k) + rowLen isLF t (r + k) = ap (λ (z : Cut). z .end .0) cut-here in
+      let q : cut .end .0 ≡ rowEnd isLF t (r + k) = ap (λ (z : Cut). z .end .0) cut-here in
       record { within = omega arith; begins = begins-next t r k (cut .end .0) q (length ws) there; ends = rw add-one q; less = sizing-less; more = sizing-more }
 
 module _ {t : List ℕ} {r c : ℕ} {ws ds : List ℕ} {gone payload start end k : ℕ} (s : Sizing t r c ws ds gone payload start end k) where
@@ -264,6 +263,7 @@ module _ {t : List ℕ} {r c : ℕ} {ws ds : List ℕ} {gone payload start end k
       let b : payload ≡ taken c ws (drop r (lines isLF t)) = rw (drop-of-length-le ws h, taken-none c (drop (r + k) (lines isLF t)), add-zero) at (s .more) in
       let n : length t - gone ≡ length (deleted t r c ws ds .text) = omega (arith, chunksDeleted-length t (at r c) ws ds) in
       let m : payload ≡ length (deleted t r c ws ds .inverse .payload) = b ∙ sym (payload-length t r c ws ds) in
-      let z : end ≡ rowsEnd t r (length ws) = s .ends ∙ ap (rowsEnd t r) (omega (arith, s .within)) in
+      let all : k ≡ length ws = omega (arith, s .within) in
+      let z : end ≡ lastEnd t r (length ws) = s .ends ∙ ap (lastEnd t r) all in
       let f : first ≡ charAt (rowStart isLF t r) = ap charAt e in
       rw (n, m, f, z)

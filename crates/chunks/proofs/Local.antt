@@ -1,26 +1,27 @@
 -- A chunk delete leaves alone what stands behind the last row that it cuts: that moves down as one.
 use mathlib.Core.Path.{_≡_, refl, sym, _∙_, ap}
 use mathlib.Core.List.{List, [], _∷_, _++_, append-assoc, append-nil, map, flatten}
-use Prim.Native.Nat.{ℕ, suc, _+_, _-_, _≤_, max}
+use Prim.Native.Nat.{ℕ, suc, _+_, _-_, _≤_}
 use native.Mathlib.Nat.{sub-zero}
 use native.Mathlib.Omega.{arith}
-use lib.ListN.{length, take, drop, replicate, length-append, length-take, length-drop, length-replicate, drop-of-length-le, take-append-drop}
-use lib.Seq.{take-length, drop-length, take-at, drop-at, take-take, take-append-seam, drop-drop, take-append-le, drop-append-le, length-take-le}
+use lib.ListN.{length, take, drop, length-append, length-take, length-drop}
+use lib.Seq.{take-length, drop-length, take-take}
 use Rattle.promise.specs.Slices.{over}
-use Rattle.promise.proofs.Lists.{drop-take}
 use Rattle.text.specs.declared.Position.{Position}
-use Rattle.text.specs.Rows.{Line, line, lines, unlines, rowCount, lastRow, rowLen, rowStart, spliced}
+use Rattle.text.specs.Rows.{Line, line, lines, unlines, rowCount, lastRow, rowStart, rowEnd}
 use Rattle.text.specs.Text.{isLF, renewed}
 use Rattle.text.proofs.Spots.{row-within}
-use Rattle.text.proofs.Ended.{final, unlines-append}
-use Rattle.text.proofs.Changes.{rowOf, row-exists, rows-around, rows-changed, text-around}
-use Rattle.text.proofs.Turns.{row-plain}
+use Rattle.text.proofs.Ended.{unlines-append}
+use Rattle.text.proofs.Changes.{rowOf}
+use Rattle.text.proofs.Fronts.{bared, behind-front, front-count, front-above, front-from, whole-from, rows-between, front-start}
 use Rattle.splice.specs.Splice.{gapRemoved}
+use Rattle.splice.proofs.Rooms.{moved-down}
 use Rattle.edit.specs.Edits.{Edited, cutAll, chunksOf, chunksDeleted}
 use Rattle.edit.proofs.Sizes.{chunksDeleted-length}
-use Rattle.blocks.proofs.Starts.{plain-none, row-there}
+use Rattle.blocks.specs.Blocks.{lastEnd}
+use Rattle.blocks.proofs.Starts.{row-there}
 use Rattle.chunks.specs.declared.Sizes.{Sizes}
-use Rattle.chunks.specs.Chunks.{rowsEnd, sizesOf, Left, left, cutFrom, leftBy}
+use Rattle.chunks.specs.Chunks.{sizesOf, Left, left, cutFrom, leftBy}
 use Rattle.chunks.proofs.Cuts.{deleted}
 
 -- ---- rows: A and one more are cut, B is not
@@ -40,45 +41,6 @@ module _ (c : ℕ) (b z : List ℕ) (B : List (Line ℕ)) where
   chunks-last (w ∷ v ∷ ws) [] e = absurd (omega arith)
   chunks-last (w ∷ ws) (a ∷ A) e = rw (chunks-last ws A (omega arith))
 
--- ---- a text up to the end of its row q
-
-module _ (t : List ℕ) (q : ℕ) (h : q ≤ lastRow isLF t) where
-  abbrev A : List (Line ℕ)
-  A = take q (lines isLF t)
-
-  abbrev b : List ℕ
-  b = rowOf t q .body
-
-  abbrev z : List ℕ
-  z = rowOf t q .after
-
-  abbrev B : List (Line ℕ)
-  B = drop (suc q) (lines isLF t)
-
-  abbrev end : ℕ
-  end = rowStart isLF t q + rowLen isLF t q
-
-  around : t ≡ (unlines A ++ b) ++ (z ++ unlines B)
-  around = text-around t q h ∙ simp append-assoc
-
-  front-long : length (unlines A ++ b) ≡ end
-  unfolding rowStart rowLen
-  front-long = length-append (unlines A) b
-
-  front-text : take end t ≡ unlines (A ++ line b [] ∷ [])
-  unfolding unlines
-  front-text = ap (take end) around ∙ take-at (unlines A ++ b) (z ++ unlines B) end front-long ∙ rw (unlines-append A (line b [] ∷ [])) (simp append-nil)
-
-  behind : drop end t ≡ z ++ unlines B
-  behind = ap (drop end) around ∙ drop-at (unlines A ++ b) (z ++ unlines B) end front-long
-
-  front-rows : lines isLF (take end t) ≡ A ++ line b [] ∷ []
-  front-rows =
-      rw front-text (rows-changed t q h (line b [] ∷ []) (final b (row-plain t q 0 0 [] h (omega arith) (omega arith) plain-none t (sym (take-append-drop (rowStart isLF t q + 0) t)))))
-
-  above-long : length A ≡ q
-  above-long = length-take-le q (lines isLF t) (omega (arith, row-exists t q h))
-
 -- ---- the delete, of the whole text and of its front
 
 -- the rows from r up to q are cut
@@ -86,49 +48,41 @@ module _ (t : List ℕ) (r c : ℕ) (w : ℕ) (ws ds : List ℕ) (h : r + length
   abbrev q : ℕ
   q = r + length ws
 
-  abbrev n : ℕ
-  n = rowStart isLF t q + rowLen isLF t q
+  abbrev e : ℕ
+  e = rowEnd isLF t q
 
-  below : (x : Line ℕ) (C : List (Line ℕ)) → drop r (A t q h ++ x ∷ C) ≡ drop r (A t q h) ++ x ∷ C
-  below x C = drop-append-le r (A t q h) (x ∷ C) (omega (arith, above-long t q h))
+  -- the rows from r on that stand above q
+  abbrev A : List (Line ℕ)
+  A = drop r (take q (lines isLF t))
 
-  rows-cut : suc (length ws) ≡ suc (length (drop r (A t q h)))
-  rows-cut = omega (arith, length-drop r (A t q h), above-long t q h)
+  abbrev z : Line ℕ
+  z = rowOf t q
 
-  rows-here : drop r (lines isLF t) ≡ drop r (A t q h) ++ rowOf t q ∷ B t q h
-  rows-here = ap (drop r) (rows-around t q h) ∙ below (rowOf t q) (B t q h)
+  abbrev B : List (Line ℕ)
+  B = drop (suc q) (lines isLF t)
 
-  rows-front : drop r (lines isLF (take n t)) ≡ drop r (A t q h) ++ line (b t q h) [] ∷ []
-  rows-front = ap (drop r) (front-rows t q h) ∙ below (line (b t q h) []) []
+  not-below : r ≤ q
+  not-below = omega arith
 
-  above-front : take r (lines isLF (take n t)) ≡ take r (lines isLF t)
-  above-front =
-      ap (take r) (front-rows t q h) ∙ take-append-le r (A t q h) (line (b t q h) [] ∷ []) (omega (arith, above-long t q h)) ∙ take-take r q (lines isLF t) (omega arith)
+  rows-cut : suc (length ws) ≡ suc (length A)
+  rows-cut = omega (arith, rows-between t q h r not-below)
 
-  start-front : rowStart isLF (take n t) r ≡ rowStart isLF t r
-  unfolding rowStart
-  start-front = ap (λ (l : List (Line ℕ)). length (unlines l)) above-front
-
-  count-front : rowCount isLF (take n t) ≡ suc q
-  unfolding rowCount
-  count-front = ap length (front-rows t q h) ∙ omega (arith, length-append (A t q h) (line (b t q h) [] ∷ []), above-long t q h)
-
-  text-local : deleted t r c (w ∷ ws) ds .text ≡ deleted (take n t) r c (w ∷ ws) ds .text ++ drop n t
+  text-local : deleted t r c (w ∷ ws) ds .text ≡ deleted (take e t) r c (w ∷ ws) ds .text ++ drop e t
   unfolding chunksDeleted
   text-local =
       let F : List (Line ℕ) = take r (lines isLF t) in
-      let G : List (Line ℕ) = cutAll c (w ∷ ws) ds (drop r (A t q h) ++ rowOf t q ∷ B t q h) in
-      let H : List (Line ℕ) = cutAll c (w ∷ ws) ds (drop r (A t q h) ++ line (b t q h) [] ∷ []) in
-      rw (rows-here, above-front, rows-front, behind t q h, unlines-append F G, unlines-append F H, cut-last c (b t q h) (z t q h) (B t q h) (w ∷ ws) ds (drop r (A t q h)) rows-cut) (simp append-assoc)
+      let G : List (Line ℕ) = cutAll c (w ∷ ws) ds (A ++ z ∷ B) in
+      let H : List (Line ℕ) = cutAll c (w ∷ ws) ds (A ++ bared z ∷ []) in
+      rw (whole-from t q h r not-below, front-above t q h r not-below, front-from t q h r not-below, behind-front t q h, unlines-append F G, unlines-append F H, cut-last c (z .body) (z .after) B (w ∷ ws) ds A rows-cut) (simp append-assoc)
 
-  chunks-local : chunksOf c (w ∷ ws) (drop r (lines isLF (take n t))) ≡ chunksOf c (w ∷ ws) (drop r (lines isLF t))
-  chunks-local = rw (rows-here, rows-front) (sym (chunks-last c (b t q h) (z t q h) (B t q h) (w ∷ ws) (drop r (A t q h)) rows-cut))
+  chunks-local : chunksOf c (w ∷ ws) (drop r (lines isLF (take e t))) ≡ chunksOf c (w ∷ ws) (drop r (lines isLF t))
+  chunks-local = rw (whole-from t q h r not-below, front-from t q h r not-below) (sym (chunks-last c (z .body) (z .after) B (w ∷ ws) A rows-cut))
 
-  payload-local : deleted (take n t) r c (w ∷ ws) ds .inverse .payload ≡ deleted t r c (w ∷ ws) ds .inverse .payload
+  payload-local : deleted (take e t) r c (w ∷ ws) ds .inverse .payload ≡ deleted t r c (w ∷ ws) ds .inverse .payload
   unfolding chunksDeleted
   payload-local = ap flatten chunks-local
 
-  first-local : deleted (take n t) r c (w ∷ ws) ds .inverse .first ≡ deleted t r c (w ∷ ws) ds .inverse .first
+  first-local : deleted (take e t) r c (w ∷ ws) ds .inverse .first ≡ deleted t r c (w ∷ ws) ds .inverse .first
   unfolding chunksDeleted
   first-local = ap (map length) chunks-local
 
@@ -141,59 +95,25 @@ record Local (t : List ℕ) (r c : ℕ) (ws ds : List ℕ) (e : ℕ) : Type 0 wh
   pub payload : deleted (take e t) r c ws ds .inverse .payload ≡ deleted t r c ws ds .inverse .payload
   pub first : deleted (take e t) r c ws ds .inverse .first ≡ deleted t r c ws ds .inverse .first
 
-local : (t : List ℕ) (r c : ℕ) (ws ds : List ℕ) → length ws ≤ rowCount isLF t - r → Local t r c ws ds (rowsEnd t r (length ws))
-unfolding rowsEnd
+local : (t : List ℕ) (r c : ℕ) (ws ds : List ℕ) → length ws ≤ rowCount isLF t - r → Local t r c ws ds (lastEnd t r (length ws))
 local t r c [] ds h = record { within = omega arith; start = rw take-length; rows = omega arith; text = rw (take-length, drop-length, append-nil); payload = rw take-length; first = rw take-length }
 local t r c (w ∷ ws) ds h =
     let k : r + length ws ≤ lastRow isLF t = row-there t r (length ws) (suc (length ws)) (omega arith) h in
     record {
       within = row-within isLF t (r + length ws);
-      start = start-front t r c w ws ds k;
-      rows = omega (arith, count-front t r c w ws ds k);
+      start = front-start t (r + length ws) k r (omega arith);
+      rows = omega (arith, front-count t (r + length ws) k);
       text = text-local t r c w ws ds k;
       payload = payload-local t r c w ws ds k;
       first = first-local t r c w ws ds k;
     }
 
--- ---- buffers: u stands for the first e of the text, and what is behind comes down to it
-
-module _ (b : List ℕ) (used e : ℕ) (u : List ℕ) (hu : length u ≤ e) (he : e ≤ used) (hb : used ≤ length b) where
-  abbrev part : List ℕ
-  part = u ++ replicate (e - length u) 0
-
-  part-renewed : renewed (take e b) e u ≡ part
-  unfolding renewed
-  part-renewed =
-      let m : max e (length u) ≡ e = omega arith in
-      rw (m, drop-of-length-le (take e b) {i = e} (omega (arith, length-take e b)), append-nil)
-
-  part-long : length part ≡ e
-  part-long = simp (length-append, length-replicate) (omega arith)
-
-  tail-same : drop e (part ++ drop e b) ≡ drop e b
-  tail-same = drop-at part (drop e b) e part-long
-
-  text-moved : spliced (take used (part ++ drop e b)) (length u) e [] ≡ u ++ drop e (take used b)
-  text-moved =
-      let a : take (length u) (take used (part ++ drop e b)) ≡ u =
-      take-take (length u) used (part ++ drop e b) (omega arith) ∙ rw append-assoc (take-append-seam u (replicate (e - length u) 0 ++ drop e b)) in
-      rw (a, drop-take e used (part ++ drop e b), tail-same, drop-take e used b)
-
-  tail-moved : gapRemoved (renewed (take e b) e u ++ drop e b) used (length u) e ≡ renewed b used (u ++ drop e (take used b))
-  unfolding renewed
-  tail-moved =
-      let w : List ℕ = u ++ drop e (take used b) in
-      let l : length w ≤ used = omega (arith, length-append u (drop e (take used b)), length-drop e (take used b), length-take used b) in
-      let m : max used (length w) ≡ used = omega arith in
-      let k : used ≡ e + (used - e) = omega arith in
-      let d : drop used (part ++ drop e b) ≡ drop used b = rw (k, ← drop-drop (used - e) e (part ++ drop e b), tail-same, drop-drop) in
-      rw (part-renewed, text-moved, m, d)
-
-  -- as the code lends the part: y is what comes back
-  tail-found : (y b₁ : List ℕ) (i : ℕ) → y ≡ renewed (take (e - 0) b) e u → i ≡ length u → b₁ ≡ gapRemoved (y ++ drop (e - 0) b) used i e → b₁ ≡ renewed b used (u ++ drop e (take used b))
-  tail-found y b₁ i ey ei q = q ∙ rw (ei, ey, sub-zero) tail-moved
-
 -- ---- in the code's words
+
+-- the first e of the text are lent, y comes back with u, and b₁ is left by the move
+tail-found : (b : List ℕ) (used e : ℕ) (u : List ℕ) → length u ≤ e → e ≤ used → used ≤ length b → (y b₁ : List ℕ) (i : ℕ) → y ≡ renewed (take (e - 0) b) e u → i ≡ length u
+    → b₁ ≡ gapRemoved (y ++ drop (e - 0) b) used i e → b₁ ≡ renewed b used (u ++ drop e (take used b))
+tail-found b used e u hu he hb y b₁ i ey ei q = q ∙ rw (ei, ey, sub-zero) (moved-down b used e u hu he hb)
 
 module _ (b : List ℕ) (used : ℕ) (p : Position) (ws ds : List ℕ) (z : Sizes) (ez : z ≡ sizesOf (take used b) p ws ds)
     (hb : used ≤ length b) (hw : length ws ≤ rowCount isLF (take used b) - p .row .0) where

@@ -1,13 +1,14 @@
 -- What the parts of a chunk delete find and leave.
 use mathlib.Core.List.{List}
-use Prim.Native.Nat.{ℕ, zero, suc, _+_, _-_}
+use Prim.Native.Nat.{ℕ, _+_, _-_}
 use lib.ListN.{length, take}
 use Rattle.text.specs.declared.Position.{Position}
-use Rattle.text.specs.Rows.{charAt, at, rowLen, rowStart, offset}
+use Rattle.text.specs.Rows.{charAt, at, rowStart, rowEnd, offset}
 use Rattle.text.specs.Text.{isLF, renewed}
 use Rattle.promise.specs.Slices.{over}
 use Rattle.edit.specs.Edits.{Edited, chunksDeleted}
 use Rattle.edit.specs.Refusals.{isSpace, spaces}
+use Rattle.blocks.specs.Blocks.{lastEnd}
 use Rattle.chunks.specs.declared.Cut.{Cut}
 use Rattle.chunks.specs.declared.Sizes.{Sizes}
 
@@ -17,13 +18,8 @@ cutAt t p w d = record {
   from = charAt (offset isLF t (at (p .row .0) (p .col .0 - d)));
   chunk = charAt (offset isLF t p);
   to = charAt (offset isLF t (at (p .row .0) (p .col .0 + w)));
-  end = charAt (rowStart isLF t (p .row .0) + rowLen isLF t (p .row .0));
+  end = charAt (rowEnd isLF t (p .row .0));
 }
-
--- where the last of n rows from r on ends; with no row, where the text ends
-unfoldable pub rowsEnd : List ℕ → ℕ → ℕ → ℕ
-rowsEnd t r zero = length t
-rowsEnd t r (suc n) = rowStart isLF t (r + n) + rowLen isLF t (r + n)
 
 -- cut_size: how long the text and the payload of its inverse are, where the first row starts, and where the last row that is cut ends
 abbrev pub sizesOf : List ℕ → Position → List ℕ → List ℕ → Sizes
@@ -33,7 +29,7 @@ sizesOf t p ws ds =
       used = length (d .text);
       payload = length (d .inverse .payload);
       start = charAt (rowStart isLF t (p .row .0));
-      end = charAt (rowsEnd t (p .row .0) (length ws));
+      end = charAt (lastEnd t (p .row .0) (length ws));
     }
 
 -- cut_rows: the three slices that it writes
