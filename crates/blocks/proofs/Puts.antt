@@ -7,7 +7,7 @@ use native.Mathlib.Decide.{decLe}
 use native.Mathlib.Omega.{arith}
 use lib.ListN.{length, take, drop, getD, replicate, length-append, length-replicate, drop-of-length-le}
 use lib.Seq.{take-all, take-length, drop-length}
-use Rattle.text.specs.Rows.{Line, line, lines, charAt, at, rowCount, lastRow, rowLen, rowStart, offset, spliced}
+use Rattle.text.specs.Rows.{Line, line, lines, charAt, at, rowCount, lastRow, rowLen, rowStart, rowEnd, offset, spliced}
 use Rattle.text.specs.Text.{isLF, all}
 use Rattle.promise.proofs.Lists.{next}
 use Rattle.text.proofs.Alls.{all-append}
@@ -53,7 +53,7 @@ put-found t s c r n m h e f g =
     let l : n ≡ rowLen isLF t r = scan-row t s n f r e in
     let x : s + m ≡ offset isLF t (at r c) = rw (offset-row isLF t r c h) (omega (arith, e, g, l)) in
     let y : c - m ≡ c - rowLen isLF t r = omega arith in
-    let z : s + n ≡ rowStart isLF t r + rowLen isLF t r = omega arith in
+    let z : s + n ≡ rowEnd isLF t r = omega arith in
     rw (x, y, z)
 
 -- ---- a chunk put in, and the rest
@@ -88,7 +88,7 @@ module _ (t : List ℕ) (r c n : ℕ) (ns x : List ℕ) (h : r ≤ lastRow isLF 
   pub put-count : rowCount isLF u ≡ rowCount isLF t
   put-count = count-turned t r m m g h (omega arith) (omega arith) plain u turned
 
-  pub put-start : r < lastRow isLF t → rowStart isLF u (suc r) ≡ rowStart isLF t r + rowLen isLF t r + (padAt t r c + length (take n x)) + 1
+  pub put-start : r < lastRow isLF t → rowStart isLF u (suc r) ≡ rowEnd isLF t r + (padAt t r c + length (take n x)) + 1
   put-start l =
       start-turned t r m m g l (omega arith) (omega arith) plain u turned
       ∙ omega (arith, length-append (replicate (padAt t r c) 32) (take n x), length-replicate {A = ℕ} (padAt t r c) 32)

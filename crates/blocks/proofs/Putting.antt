@@ -7,7 +7,7 @@ use native.Mathlib.Omega.{arith}
 use lib.ListN.{length, take, drop, getD, set, replicate, length-append, length-take, length-drop, length-replicate, length-set, drop-of-length-le, take-append-drop}
 use lib.Seq.{drop-drop, length-take-le}
 use Rattle.promise.proofs.Lists.{next}
-use Rattle.text.specs.Rows.{lines, at, rowCount, lastRow, rowLen, rowStart, offset, spliced}
+use Rattle.text.specs.Rows.{lines, at, rowCount, lastRow, rowStart, rowEnd, offset, spliced}
 use Rattle.text.specs.Text.{isLF, renewed}
 use Rattle.text.proofs.Laws.{unlines-lines, count-last}
 use Rattle.text.proofs.Alls.{all-take, all-drop}
@@ -110,14 +110,14 @@ module _ (b₀ : List ℕ) (used r c : ℕ) (x ns q₀ b q : List ℕ) (long sta
     turn-room =
         omega (arith, v-length, ap length text-next, blockInserted-length v (at (r + (k + 1)) c) (drop (from + n) x) (drop (k + 1) ns) (omega (arith, left-next, length-drop (from + n) x)))
 
-    begins-more : (start₁ : ℕ) → start₁ ≡ rowStart isLF u (r + k) + rowLen isLF u (r + k) + pad + n + 1 → (k + 1 < length ns → r + k < lastRow isLF u)
+    begins-more : (start₁ : ℕ) → start₁ ≡ rowEnd isLF u (r + k) + pad + n + 1 → (k + 1 < length ns → r + k < lastRow isLF u)
         → Begins v r (length ns) (k + 1) start₁
     begins-more start₁ es below m =
         let e : r + (k + 1) ≡ suc (r + k) = omega arith in
         rw e (omega (arith, es, chunk-length, put-start u (r + k) c n (drop (k + 1) ns) (drop from x) l (all-take notLF n (drop from x) (all-drop notLF from x p)) v refl (below m)))
 
     -- b₁ is the buffer after the splice, q₁ the pads after the store, and start₁ is behind the row as it then is
-    pub putting-more : (b₁ q₁ : List ℕ) (start₁ : ℕ) → start₁ ≡ rowStart isLF u (r + k) + rowLen isLF u (r + k) + pad + n + 1 → (k + 1 < length ns → r + k < lastRow isLF u)
+    pub putting-more : (b₁ q₁ : List ℕ) (start₁ : ℕ) → start₁ ≡ rowEnd isLF u (r + k) + pad + n + 1 → (k + 1 < length ns → r + k < lastRow isLF u)
         → b₁ ≡ renewed b long v → q₁ ≡ set q k pad → long + (pad + n) ≤ length b → length ns ≤ length q₀
         → Putting b₀ used r c x ns q₀ b₁ q₁ (long + (pad + n)) start₁ (from + n) (k + 1)
     putting-more b₁ q₁ start₁ es below eb eq room more =
@@ -187,7 +187,7 @@ module _ {b₀ : List ℕ} {used r c : ℕ} {x ns q₀ b q : List ℕ} {long sta
       putting-next b₁ eb more =
           let u = take long b in
           rw put-here
-          (putting-more b₀ used r c x ns q₀ b q long start from k s h row-now p b₁ (set q k (padAt u (r + k) c)) (rowStart isLF u (r + k) + rowLen isLF u (r + k) + padAt u (r + k) c + getD ns k 0 + 1) refl (λ m. omega (arith, count-last isLF u, s .rows)) (rw (put-here, chunk-here) at eb) refl (rw put-here at next-room) more)
+          (putting-more b₀ used r c x ns q₀ b q long start from k s h row-now p b₁ (set q k (padAt u (r + k) c)) (rowEnd isLF u (r + k) + padAt u (r + k) c + getD ns k 0 + 1) refl (λ m. omega (arith, count-last isLF u, s .rows)) (rw (put-here, chunk-here) at eb) refl (rw put-here at next-room) more)
 
 -- ---- at the end
 

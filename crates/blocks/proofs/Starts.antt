@@ -6,7 +6,7 @@ use native.Mathlib.Nat.{add-zero}
 use native.Mathlib.Omega.{arith}
 use lib.ListN.{length, take, drop, length-append, length-take, length-drop, take-append-drop}
 use Rattle.promise.proofs.Lists.{tail-whole}
-use Rattle.text.specs.Rows.{lines, unlines, rowCount, lastRow, rowLen, rowStart, spliced}
+use Rattle.text.specs.Rows.{lines, unlines, rowCount, lastRow, rowLen, rowStart, rowEnd, spliced}
 use Rattle.text.specs.Text.{isLF, all}
 use Rattle.text.proofs.Laws.{row-at, len-le, count-last}
 use Rattle.text.proofs.Spots.{row-within}
@@ -49,7 +49,7 @@ module _ (t : List ℕ) (r a e : ℕ) (x : List ℕ) (h : r < lastRow isLF t) (h
       let w : unlines (take (suc r) (lines isLF u)) ≡ unlines (A ++ n ∷ []) = rw append-nil at (from-turned t r a e x there ha he p u q []) in
       omega (arith, ap length w, ap length (unlines-append A (n ∷ [])), length-append (unlines A) (unlines (n ∷ [])), length-append (n .body) (n .after ++ []), length-append (n .after) [], ap length lf-behind, new-length)
 
-pub start-next : (t : List ℕ) (r : ℕ) → r < lastRow isLF t → rowStart isLF t (suc r) ≡ rowStart isLF t r + rowLen isLF t r + 1
+pub start-next : (t : List ℕ) (r : ℕ) → r < lastRow isLF t → rowStart isLF t (suc r) ≡ rowEnd isLF t r + 1
 start-next t r h =
     start-turned t r 0 0 [] h (omega arith) (omega arith) plain-none t (sym (take-append-drop (rowStart isLF t r + 0) t)) ∙ omega arith
 
@@ -66,7 +66,7 @@ pub begins-first : (t : List ℕ) (r n s : ℕ) → s ≡ rowStart isLF t r → 
 begins-first t r n s e m = e ∙ rw add-zero
 
 -- the row ends at e
-module _ (t : List ℕ) (r k e : ℕ) (q : e ≡ rowStart isLF t (r + k) + rowLen isLF t (r + k)) where
+module _ (t : List ℕ) (r k e : ℕ) (q : e ≡ rowEnd isLF t (r + k)) where
   pub end-within : e ≤ length t
   end-within = rw q (row-within isLF t (r + k))
 

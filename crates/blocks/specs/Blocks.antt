@@ -4,7 +4,7 @@ use Prim.Native.Nat.{ℕ, zero, suc, _+_, _-_}
 use lib.ListN.{length, take}
 use Rattle.promise.specs.Slices.{over}
 use Rattle.text.specs.declared.Position.{Position}
-use Rattle.text.specs.Rows.{charAt, rowLen, rowStart, offset}
+use Rattle.text.specs.Rows.{charAt, rowLen, rowEnd, offset}
 use Rattle.text.specs.Text.{isLF, renewed}
 use Rattle.edit.specs.Edits.{Edited, blockInserted}
 use Rattle.edit.specs.Refusals.{isSpace, spaces}
@@ -15,13 +15,13 @@ abbrev pub putAt : List ℕ → Position → Put
 putAt t p = record {
   at = charAt (offset isLF t p);
   pad = p .col .0 - rowLen isLF t (p .row .0);
-  end = charAt (rowStart isLF t (p .row .0) + rowLen isLF t (p .row .0));
+  end = charAt (rowEnd isLF t (p .row .0));
 }
 
 -- put_size: where the last of n rows from r on ends; of no rows, the end of the text
 abbrev pub lastEnd : List ℕ → ℕ → ℕ → ℕ
 lastEnd t r zero = length t
-lastEnd t r (suc n) = rowStart isLF t (r + n) + rowLen isLF t (r + n)
+lastEnd t r (suc n) = rowEnd isLF t (r + n)
 
 -- put_rows, put_chunks: the two slices that it writes
 pub record Left : Type 0 where

@@ -153,7 +153,7 @@ fn put_chunks(
     let end = extent.end.0;
     let size = extent.size;
     let grown = size - used;
-    splice::shift_up(&mut text[end..], used - end, grown);
+    splice::open_padded(text, used, CharOffset(end), grown, &lens[0..0]);
     put_rows(
         &mut text[0..end + grown],
         end,

@@ -7,7 +7,7 @@ use Rattle.blocks.proofs.put_chunks.Tie as tie
 use Rattle.blocks.proofs.put_chunks.Reads as reads
 use Rattle.blocks.proofs.put_chunks.Lts as lts
 use Rattle.blocks.proofs.put_rows.Reads as put-rows-reads
-use Rattle.splice.proofs.shift_up.Reads as shift-up-reads
+use Rattle.splice.proofs.open_padded.Reads as open-padded-reads
 
 fits : (s : tie.Start) → (s .args .extent .end .0 ≤ s .args .used) × (s .args .used ≤ s .args .extent .size)
 fits s = let a = s .args in extent-fits (a .text .now) (a .used) (a .at) (a .payload .now) (a .lens .now) (a .extent .size) (a .extent .end .0) (s .pre .0) (s .pre .3) (s .pre .4) (s .pre .6) (s .pre .8) (s .pre .9)
@@ -15,26 +15,20 @@ fits s = let a = s .args in extent-fits (a .text .now) (a .used) (a .at) (a .pay
 sub-grown : tie.Need-sub-grown
 sub-grown c = omega (arith, fits (c .before .before .before .before))
 
-mul-shift-up : tie.Need-mul-shift-up
-mul-shift-up c = omega (arith, fits (c .before .before .before .before))
+sub-open-padded : tie.Need-sub-open-padded
+sub-open-padded c = search needs
 
-sub-shift-up : tie.Need-sub-shift-up
-sub-shift-up c = omega (arith, fits (c .before .before .before .before))
+part-open-padded-start : tie.Need-part-open-padded-start
+part-open-padded-start c = search needs
 
-part-shift-up-start : tie.Need-part-shift-up-start
-part-shift-up-start c = omega (arith, fits (c .before .before .before .before))
+part-open-padded-end : tie.Need-part-open-padded-end
+part-open-padded-end c = search needs
 
-part-shift-up-end : tie.Need-part-shift-up-end
-part-shift-up-end c = search needs
-
-sub-shift-up-2 : tie.Need-sub-shift-up-2
-sub-shift-up-2 c = omega (arith, fits (c .before .before .before .before .before))
-
-shift-up-requires : tie.Need-shift-up-requires
-shift-up-requires c κs = omega (arith, fits (c .before .before .before .before .before))
+open-padded-requires : tie.Need-open-padded-requires
+open-padded-requires c κs = let q = fits (c .before .before .before .before .before .before) in (omega arith, omega arith)
 
 add-put-rows : tie.Need-add-put-rows
-add-put-rows c = omega (arith, fits (c .before .before .before .before .before .before .before .before))
+add-put-rows c = omega (arith, fits (c .before .before .before .before .before .before .before .before .before))
 
 sub-put-rows : tie.Need-sub-put-rows
 sub-put-rows c = search needs
@@ -43,10 +37,10 @@ part-put-rows-start : tie.Need-part-put-rows-start
 part-put-rows-start c = search needs
 
 part-put-rows-end : tie.Need-part-put-rows-end
-part-put-rows-end c = omega (arith, fits (c .before .before .before .before .before .before .before .before))
+part-put-rows-end c = omega (arith, fits (c .before .before .before .before .before .before .before .before .before))
 
 put-rows-requires : tie.Need-put-rows-requires
-put-rows-requires c κs = let s = c .before .before .before .before .before .before .before .before .before .before in let a = s .args in front-asked (a .text .now) (a .used) (a .at) (a .payload .now) (a .lens .now) (a .extent .size) (a .extent .end .0) (s .pre .0) (s .pre .3) (s .pre .4) (s .pre .6) (s .pre .8) (s .pre .9) _ (c .before .before .before .before .shift-up .ensures) (a .extent .start .0) (s .pre .7) (s .pre .1) (s .pre .2) (s .pre .5) (s .pre .10) (a .pads .now) (s .pre .11)
+put-rows-requires c κs = let s = c .before .before .before .before .before .before .before .before .before .before .before in let a = s .args in front-asked (a .text .now) (a .used) (a .at) (a .payload .now) (a .lens .now) (a .extent .size) (a .extent .end .0) (s .pre .0) (s .pre .3) (s .pre .4) (s .pre .6) (s .pre .8) (s .pre .9) _ (c .before .before .before .before .open-padded .ensures) (a .extent .start .0) (s .pre .7) (s .pre .1) (s .pre .2) (s .pre .5) (s .pre .10) (a .pads .now) (s .pre .11)
 
 same-length : tie.Need-same-length
 same-length c = search needs
@@ -55,19 +49,17 @@ same-length-2 : tie.Need-same-length-2
 same-length-2 c = search needs
 
 returns : tie.Need-returns
-returns c = let s = c .before .before .before .before .before .before .before .before .before .before .before .before .before .before .before in let a = s .args in chunks-put (a .text .now) (a .used) (a .at) (a .payload .now) (a .lens .now) (a .extent .size) (a .extent .end .0) (s .pre .0) (s .pre .3) (s .pre .4) (s .pre .6) (s .pre .8) (s .pre .9) _ (c .before .before .before .before .before .before .before .before .before .shift-up .ensures) _ (a .pads .now) _ (c .before .before .before .before .put-rows .ensures)
+returns c = let s = c .before .before .before .before .before .before .before .before .before .before .before .before .before .before .before .before in let a = s .args in chunks-put (a .text .now) (a .used) (a .at) (a .payload .now) (a .lens .now) (a .extent .size) (a .extent .end .0) (s .pre .0) (s .pre .3) (s .pre .4) (s .pre .6) (s .pre .8) (s .pre .9) _ (c .before .before .before .before .before .before .before .before .before .open-padded .ensures) _ (a .pads .now) _ (c .before .before .before .before .put-rows .ensures)
 
 pub put-chunks-spec : {M : Type 1} → statement M
 put-chunks-spec =
     tie.close
     (tie.spec
     sub-grown
-    mul-shift-up
-    sub-shift-up
-    part-shift-up-start
-    part-shift-up-end
-    sub-shift-up-2
-    shift-up-requires
+    sub-open-padded
+    part-open-padded-start
+    part-open-padded-end
+    open-padded-requires
     add-put-rows
     sub-put-rows
     part-put-rows-start
