@@ -6,6 +6,8 @@ use edit::Edit;
 use edit::Refusal;
 use edit::Verdict;
 use frame::BYTE_LIMIT;
+use frame::SHORT_BYTES;
+use frame::SHORT_LINE;
 use given::judge_admitted;
 use loading::Progress;
 use loading::Script;
@@ -38,9 +40,6 @@ ghost use Rattle.printing.specs.Prints.{printedAs};
 ghost use Rattle.loading.specs.States.{stateOf};
 ghost use Rattle.step.specs.Steps.{lentTo, ran, edited, framed};
 ghost use Rattle.step.specs.Calls.{Ready, left, leaves, carriedIn, inverseIn};
-
-// The most digits of a line that is read into small arrays.
-const SHORT_LINE: usize = 512;
 
 // What an accepted edit leaves beside its text: the marks over it, and the line of its inverse.
 fn accept(
@@ -229,9 +228,8 @@ pub fn step_edit(
     requires { ⌜ Ready script (now text) (now marks) × (36_867 ≤ length (now out)) × ((e : AnEdit) × (headOf (lineForm (now line)) ≡ asHead.Edit e)) ⌝ }
     ensures { λ r. ⌜ left r (now (text .exit)) (now (marks .exit)) (now (out .exit)) ≡ leaves (framed (stateOf script (now (text .entry)) (now (marks .entry))) (frameRead (now (line .entry)))) (now (marks .entry)) (now (out .entry)) ⌝ }
 {
-    // Nearly all lines are short, and clearing the large arrays takes longer than all the rest.
     if line.len() <= SHORT_LINE {
-        let mut payload = [0u32; 256];
+        let mut payload = [0u32; SHORT_BYTES];
         let mut first = [0u32; 64];
         let mut second = [0u32; 52];
         return step_read(
