@@ -3,18 +3,20 @@ use mathlib.Core.Path.{_≡_, refl, sym, ap, _∙_}
 use mathlib.Core.Bool.{Bool}
 use mathlib.Core.List.{List, [], _∷_, _++_, append-nil, append-assoc}
 use Prim.Native.Nat.{ℕ, zero, suc, _+_, _≤_}
+use native.Mathlib.Omega.{arith}
 use lib.ListN.{length, take, drop, getD}
 use lib.Seq.{take-suc}
-use Rattle.text.specs.Rows.{Line, line, unlines, lastRow}
+use Rattle.text.specs.Rows.{Line, line, unlines, lastRow, rowEnd}
 use Rattle.text.specs.Text.{isLF}
 use Rattle.text.proofs.Ended.{unlines-append}
 use Rattle.text.proofs.Changes.{rowOf}
+use Rattle.text.proofs.Fronts.{bared, front-above}
 use Rattle.edit.specs.Edits.{Edited, edited, joinRow, joinCols, joinFlags}
 use Rattle.edit.proofs.Joins.{joinRow-snoc, joinCols-snoc, joinFlags-snoc}
 use Rattle.joins.specs.Turns.{joins}
 use Rattle.joins.proofs.JoinTurns.{belowOf, rowTo}
 use Rattle.joins.proofs.JoinPlans.{walked-row}
-use Rattle.joins.proofs.Parts.{bared, first, below, below-all, upTo-rest, rowEnd, rowsAbove, few, part-above, part-row, part-below}
+use Rattle.joins.proofs.Parts.{first, below, below-all, upTo-rest, rowsAbove, few, part-row, part-below}
 
 -- ---- the joins of a row x with the rows B below it, up to row k of them
 
@@ -43,19 +45,19 @@ module _ (x : Line ℕ) (B : List (Line ℕ)) (b : Bool) where
 -- ---- of row r of the text t with k rows
 
 module _ (t : List ℕ) (r k : ℕ) (h : r + k ≤ lastRow isLF t) (b : Bool) where
-  pub part-joins : joins (take (rowEnd t (r + k)) t) r b k ≡ edited (unlines (rowsAbove t r) ++ rowTo t r b k .body) (joins t r b k .inverse) (joins t r b k .cursor)
+  pub part-joins : joins (take (rowEnd isLF t (r + k)) t) r b k ≡ edited (unlines (rowsAbove t r) ++ rowTo t r b k .body) (joins t r b k .inverse) (joins t r b k .cursor)
   unfolding joins unlines
   part-joins =
       let x = rowOf t r in
       let B = belowOf t r in
       let l = few t r k h in
-      rw (part-above t r k h, part-row t r k h, part-below t r k h, upTo-row x B b k l, upTo-cols x B b k l, upTo-flags x B b k l, upTo-rest x B k l, unlines-append (rowsAbove t r) (bared (rowTo t r b k) ∷ []), append-nil (rowTo t r b k .body))
+      rw (front-above t (r + k) h r (omega arith), part-row t r k h, part-below t r k h, upTo-row x B b k l, upTo-cols x B b k l, upTo-flags x B b k l, upTo-rest x B k l, unlines-append (rowsAbove t r) (bared (rowTo t r b k) ∷ []), append-nil (rowTo t r b k .body))
 
-  pub part-whole : joins t r b k .text ≡ joins (take (rowEnd t (r + k)) t) r b k .text ++ drop (rowEnd t (r + k)) t
+  pub part-whole : joins t r b k .text ≡ joins (take (rowEnd isLF t (r + k)) t) r b k .text ++ drop (rowEnd isLF t (r + k)) t
   unfolding joins unlines
   part-whole =
       let z = rowTo t r b k in
       let R = unlines (drop k (belowOf t r)) in
       unlines-append (rowsAbove t r) (z ∷ drop k (belowOf t r)) ∙ sym (append-assoc (unlines (rowsAbove t r)) (z .body) (z .after ++ R))
       ∙ rw (row-after (rowOf t r) (belowOf t r) b k (few t r k h)) (ap (_++_ (unlines (rowsAbove t r) ++ z .body)) (sym (walked-row t r k h)))
-      ∙ sym (ap (λ (d : Edited ℕ). d .text ++ drop (rowEnd t (r + k)) t) part-joins)
+      ∙ sym (ap (λ (d : Edited ℕ). d .text ++ drop (rowEnd isLF t (r + k)) t) part-joins)

@@ -1,7 +1,7 @@
 -- The plan of a join walks the text as it was: what is known after k rows below row r.
 use mathlib.Core.Path.{_≡_, refl, sym, ap, _∙_}
 use mathlib.Core.Bool.{Bool, true, false, _&&_, _||_}
-use mathlib.Core.List.{List, [], _∷_, _++_, append-assoc}
+use mathlib.Core.List.{List, [], _∷_, _++_}
 use mathlib.Core.Logic.{_⊎_, inl, inr, ⊎-elim}
 use Prim.Native.Nat.{ℕ, suc, _+_, _-_, _≤_, _<_, min, max}
 use native.Mathlib.Omega.{arith}
@@ -10,14 +10,15 @@ use native.Mathlib.Decide.{decLe}
 use borrow.Author.Tests.{ltb-true, ltb-false, eqb-true, eqb-false}
 use Rattle.promise.proofs.Bools.{both}
 use lib.Dec.{ltb, eqb}
-use lib.ListN.{length, take, drop, getD, length-drop, drop-of-length-le}
-use lib.Seq.{drop-cons, drop-drop, drop-append-add, drop-append-seam}
+use lib.ListN.{length, drop, getD, length-drop, drop-of-length-le}
+use lib.Seq.{drop-cons, drop-drop, drop-append-seam}
 use Rattle.text.specs.declared.Span.{Span}
-use Rattle.text.specs.Rows.{Line, line, lines, unlines, lastRow, rowLen, rowStart, span, charAt}
+use Rattle.text.specs.Rows.{Line, line, lines, unlines, lastRow, rowLen, rowEnd, span, charAt}
 use Rattle.text.specs.Text.{isLF}
 use Rattle.text.proofs.Spots.{row-within}
 use Rattle.text.proofs.Ended.{Ended, ended-at, ended-last, first-len}
-use Rattle.text.proofs.Changes.{rowOf, rows-below, text-around}
+use Rattle.text.proofs.Changes.{rows-below}
+use Rattle.text.proofs.Fronts.{behind-front}
 use Rattle.edit.specs.Edits.{gap, joinRow, joined}
 use Rattle.edit.specs.Refusals.{isSpace, spaces}
 use Rattle.joins.specs.declared.JoinTurn.{JoinTurn}
@@ -30,15 +31,6 @@ abbrev pub Walked : List ℕ → ℕ → ℕ → ℕ → Type 0
 Walked t r k at = drop at t ≡ afterOf t r k ++ unlines (drop k (belowOf t r))
 
 module _ (t : List ℕ) (r : ℕ) (h : r ≤ lastRow isLF t) where
-  pub walked-none : Walked t r 0 (rowStart isLF t r + rowLen isLF t r)
-  unfolding rowStart rowLen
-  walked-none =
-      let A = unlines (take r (lines isLF t)) in
-      let x = rowOf t r in
-      let R = unlines (belowOf t r) in
-      ap (drop (length A + length (x .body))) (text-around t r h) ∙ drop-append-add A (x .body ++ x .after ++ R) (length (x .body))
-      ∙ ap (drop (length (x .body))) (append-assoc (x .body) (x .after) R) ∙ drop-append-seam (x .body) (x .after ++ R)
-
   module _ (k at : ℕ) (w : Walked t r k at) where
     walked-all : k ≡ length (belowOf t r) → length t ≤ at
     unfolding unlines
@@ -70,16 +62,16 @@ module _ (t : List ℕ) (r : ℕ) (h : r ≤ lastRow isLF t) where
           sym (drop-drop (length (y .body)) (at + 1) t) ∙ ap (drop (length (y .body))) walked-past ∙ drop-append-seam (y .body) (y .after ++ unlines (drop (suc k) (belowOf t r)))
 
 -- the walk is where row r + k ends
-pub walked-row : (t : List ℕ) (r k : ℕ) → r + k ≤ lastRow isLF t → Walked t r k (rowStart isLF t (r + k) + rowLen isLF t (r + k))
+pub walked-row : (t : List ℕ) (r k : ℕ) → r + k ≤ lastRow isLF t → Walked t r k (rowEnd isLF t (r + k))
 walked-row t r k h =
     let n : suc r + k ≡ suc (r + k) = omega arith in
     let d : drop k (belowOf t r) ≡ belowOf t (r + k) = drop-drop k (suc r) (lines isLF t) ∙ rw n in
-    walked-none t (r + k) h ∙ sym (ap (λ (y : Line ℕ). y .after ++ unlines (drop k (belowOf t r))) (row-at t r k (omega arith)) ∙ rw d)
+    behind-front t (r + k) h ∙ sym (ap (λ (y : Line ℕ). y .after ++ unlines (drop k (belowOf t r))) (row-at t r k (omega arith)) ∙ rw d)
 
 -- and nowhere else
-walked-end : (t : List ℕ) (r k at : ℕ) → r + k ≤ lastRow isLF t → at ≤ length t → Walked t r k at → at ≡ rowStart isLF t (r + k) + rowLen isLF t (r + k)
+walked-end : (t : List ℕ) (r k at : ℕ) → r + k ≤ lastRow isLF t → at ≤ length t → Walked t r k at → at ≡ rowEnd isLF t (r + k)
 walked-end t r k at h l w =
-    let e : ℕ = rowStart isLF t (r + k) + rowLen isLF t (r + k) in
+    let e : ℕ = rowEnd isLF t (r + k) in
     let q : drop at t ≡ drop e t = w ∙ sym (walked-row t r k h) in
     omega (arith, row-within isLF t (r + k), length-drop at t, length-drop e t, ap length q)
 
@@ -100,7 +92,7 @@ planning-none t count b end len r q = record {
   more = omega arith;
   used-is = sym (ap length (joins-none t r b (q .within)));
   left-is = q .long;
-  walked = rw (q .ends) (unfold rowLen in (walked-none t r (q .within)));
+  walked = rw (q .ends) (unfold rowLen in (behind-front t r (q .within)));
 }
 
 module _ (t : List ℕ) (r : ℕ) (b : Bool) (m used at left k : ℕ) (h : r ≤ lastRow isLF t) (p : Planned t r b m used at left k) where

@@ -7,7 +7,7 @@ use Prim.Native.Nat.{ℕ, zero, suc, _+_, _-_, _≤_, _<_, min, max}
 use native.Mathlib.Omega.{arith}
 use lib.ListN.{length, take, drop, getD, length-append, length-take, length-drop, drop-of-length-le}
 use lib.Seq.{take-suc, drop-cons, getD-drop, take-all, length-take-le}
-use Rattle.text.specs.Rows.{Line, line, lines, unlines, rowCount, lastRow, rowLen, rowStart, spliced}
+use Rattle.text.specs.Rows.{Line, line, lines, unlines, rowCount, lastRow, rowLen, rowStart, rowEnd, spliced}
 use Rattle.text.specs.Text.{isLF}
 use Rattle.text.proofs.Laws.{unlines-lines, len-le}
 use Rattle.text.proofs.Ended.{Ended}
@@ -126,7 +126,7 @@ joins-small t r b (suc k) h l =
 -- row r begins the walk
 pub record Starts (t : List ℕ) (r end len : ℕ) : Type 0 where
   pub within : r ≤ lastRow isLF t
-  pub ends : end ≡ rowStart isLF t r + rowLen isLF t r
+  pub ends : end ≡ rowEnd isLF t r
   pub long : len ≡ rowLen isLF t r
 
 -- ---- as many joins as there are rows for, or as are asked for

@@ -4,6 +4,7 @@ use mathlib.Core.Bool.{Bool, true}
 use mathlib.Core.List.{List, _++_}
 use mathlib.Core.Logic.{_⊎_, inl, inr}
 use Prim.Native.Nat.{ℕ, _+_, _-_, _%_, _^_, _≤_, min, max}
+use native.Mathlib.Nat.{sub-zero}
 use native.Mathlib.Omega.{arith}
 use native.Mathlib.Decide.{decLe}
 use lib.ListN.{length, take, drop, length-append, length-take, length-drop}
@@ -11,7 +12,7 @@ use lib.Seq.{take-take}
 use Rattle.promise.specs.Paper.{done, refused}
 use Rattle.promise.specs.Slices.{over}
 use Rattle.text.specs.declared.Span.{Span}
-use Rattle.text.specs.Rows.{lastRow, rowLen, rowStart, span, at}
+use Rattle.text.specs.Rows.{lastRow, rowEnd, span, at}
 use Rattle.text.specs.Text.{isLF, renewed}
 use Rattle.text.proofs.Texts.{front}
 use Rattle.edit.specs.declared.View.{View}
@@ -33,8 +34,8 @@ use Rattle.joins.specs.Turns.{joinPlan, joins, Slices, slices, filled}
 use Rattle.joins.proofs.JoinTurns.{belowOf, below-count, joins-same, joined-joins, joins-small}
 use Rattle.joins.proofs.Parts.{part-last, part-span}
 use Rattle.joins.proofs.JoinLocal.{part-joins, part-whole}
-use Rattle.joins.proofs.Splices.{moved-down}
 use Rattle.splice.specs.Splice.{gapRemoved}
+use Rattle.splice.proofs.Rooms.{moved-down}
 
 -- the row that was found, and the plan for it
 module _ (text : List ℕ) (used row count : ℕ) (b : Bool) (f : Span) (ef : f ≡ span isLF (take (used - 0) (drop 0 text)) row) where
@@ -94,7 +95,7 @@ module _ (text : List ℕ) (used row count : ℕ) (b : Bool) (f : Span) (ef : f 
     last-in : r + p .first ≤ lastRow isLF t
     last-in = omega (arith, join-count, row-in)
 
-    end-is : e ≡ rowStart isLF t (r + p .first) + rowLen isLF t (r + p .first)
+    end-is : e ≡ rowEnd isLF t (r + p .first)
     unfolding span
     end-is =
         let n : length (joined isLF isSpace spaces t r count b .inverse .first) ≡ p .first = rw same-row (ap (λ (q : Plan). q .first) join-planned) in
@@ -146,7 +147,7 @@ module _ (text : List ℕ) (used row count : ℕ) (b : Bool) (f : Span) (ef : f 
           let c : cols′ ≡ over (joins t r b (p .first) .inverse .first) cols = ap (λ (s : Slices). s .cols) q ∙ rw i in
           let g : flags′ ≡ over (joins t r b (p .first) .inverse .second) flags = ap (λ (s : Slices). s .flags) q ∙ rw i in
           let m : text′ ≡ renewed text used (joins t r b (p .first) .text) =
-          et ∙ rw (ap (λ (s : Slices). s .text) q, kept-is, whole-is) (moved-down text e u part-small (omega (arith, end-within)) used end-within room) in
+          et ∙ rw (ap (λ (s : Slices). s .text) q, kept-is, whole-is, sub-zero) (moved-down text used e u part-small end-within room) in
           rw (m, c, g)
 
     pub join-refused : (view : View) (room : Room) (v : Verdict) → ((e : Edited ℕ) → planOf e ≡ p → paperVerdict v ≡ verdictOf (resultTests true room e)) → (why : Refusal) → v ≡ Bad why

@@ -2,7 +2,7 @@
 use mathlib.Core.Path.{_≡_, refl, sym, ap, _∙_}
 use mathlib.Core.Bool.{_&&_, _||_}
 use mathlib.Core.List.{List, [], _∷_, _++_, append-assoc}
-use Prim.Native.Nat.{ℕ, zero, suc, _+_, _-_, _≤_, _<_, min}
+use Prim.Native.Nat.{ℕ, zero, suc, _+_, _≤_, _<_, min}
 use native.Mathlib.Nat.{add-zero}
 use native.Mathlib.Numerals.{add-one}
 use native.Mathlib.Omega.{arith}
@@ -10,7 +10,7 @@ use lib.Dec.{eqb, leb}
 use lib.ListN.{length, take, drop, getD, length-append, length-take, length-drop}
 use lib.Seq.{slice, length-slice, drop-cons, drop-drop, drop-length, getD-drop, take-take, take-append-le, take-append-add, drop-append-seam, length-take-le}
 use Rattle.text.specs.declared.Span.{Span}
-use Rattle.text.specs.Rows.{Line, line, lines, unlines, lastRow, rowLen, rowStart, span, spliced}
+use Rattle.text.specs.Rows.{Line, line, lines, unlines, lastRow, rowLen, rowStart, rowEnd, span, spliced}
 use Rattle.text.specs.Text.{isLF}
 use Rattle.text.proofs.Laws.{unlines-lines}
 use Rattle.text.proofs.Walks.{span-parts}
@@ -134,7 +134,7 @@ module _ (t : List ℕ) (r : ℕ) (h : r ≤ lastRow isLF t) where
 pub record Spans (t : List ℕ) (r start end : ℕ) : Type 0 where
   pub within : r ≤ lastRow isLF t
   pub begins : start ≡ rowStart isLF t r
-  pub ends : end ≡ rowStart isLF t r + rowLen isLF t r
+  pub ends : end ≡ rowEnd isLF t r
 
 -- ---- the turn at index j
 

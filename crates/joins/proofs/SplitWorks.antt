@@ -3,12 +3,13 @@ use mathlib.Core.Path.{_≡_, refl, sym, ap, _∙_}
 use mathlib.Core.Bool.{Bool}
 use mathlib.Core.List.{List, _++_}
 use Prim.Native.Nat.{ℕ, _+_, _-_, _%_, _^_, _≤_, min}
+use native.Mathlib.Nat.{sub-zero}
 use native.Mathlib.Omega.{arith}
 use lib.ListN.{length, take, drop, length-append, length-take, length-drop}
 use Rattle.promise.specs.Paper.{done, refused}
 use Rattle.text.specs.declared.Span.{Span}
 use Rattle.text.specs.declared.Row.{Row}
-use Rattle.text.specs.Rows.{lastRow, span, at}
+use Rattle.text.specs.Rows.{lastRow, rowEnd, span, at}
 use Rattle.text.specs.Text.{isLF, renewed}
 use Rattle.text.proofs.Texts.{front}
 use Rattle.edit.specs.declared.View.{View}
@@ -22,11 +23,10 @@ use Rattle.edit.specs.Edits.{Edited, split, anyFlag}
 use Rattle.edit.specs.Refusals.{isSpace, spaces, withinOk}
 use Rattle.edit.specs.Call.{numberOf, offsetOf, paperVerdict, verdictOf, resultTests, planOf, lent, roomOf, outcome, appliedAs, finished}
 use Rattle.text.proofs.Walks.{found-row, found-again, span-parts, span-within}
+use Rattle.splice.proofs.Rooms.{opened, opened-length, opened-front, moved-up}
 use Rattle.edit.proofs.Workers.{worked-fits, worked-refused, worked-done}
 use Rattle.joins.specs.declared.SplitPlan.{SplitPlan}
-use Rattle.joins.proofs.Splices.{opened, opened-length, opened-front, opened-back}
 use Rattle.joins.proofs.SplitTurns.{splits-none, splits-grow}
-use Rattle.joins.proofs.Parts.{rowEnd}
 use Rattle.joins.proofs.SplitLocal.{row-span, row-split}
 
 module _ (text : List ℕ) (used : ℕ) (row : Row) (cs fs : List ℕ) (f : Span) (ef : f ≡ span isLF (take (used - 0) (drop 0 text)) (row .0)) where
@@ -83,7 +83,7 @@ module _ (text : List ℕ) (used : ℕ) (row : Row) (cs fs : List ℕ) (f : Span
           row-in : r ≤ lastRow isLF t
           row-in = span-parts t f found .0
 
-          end-is : e ≡ rowEnd t r
+          end-is : e ≡ rowEnd isLF t r
           end-is = span-parts t f found .2
 
           size-is : p .sizes .used ≡ length (split isLF isSpace spaces t r cs fs .text)
@@ -110,10 +110,10 @@ module _ (text : List ℕ) (used : ℕ) (row : Row) (cs fs : List ℕ) (f : Span
 
           module _ (text₁ : List ℕ) (e₁ : text₁ ≡ opened text used e m) where
             part-is : take e (take (e + m - 0) (drop 0 text₁)) ≡ take e t
-            part-is = rw e₁ (opened-front text used e m (split-sizes .0) opens)
+            part-is = rw (front text₁ (e + m), e₁) (opened-front text used e m (split-sizes .0) opens)
 
             part-length : length (take (e + m - 0) (drop 0 text₁)) ≡ e + m
-            part-length = rw e₁ (opened-length text used e m (split-sizes .0) opens)
+            part-length = rw (front text₁ (e + m), e₁) (opened-length text used e m (split-sizes .0) opens)
 
             pub split-lent : (e ≤ length (take (e + m - 0) (drop 0 text₁))) × (f ≡ span isLF (take e (take (e + m - 0) (drop 0 text₁))) r)
                 × (length (split isLF isSpace spaces (take e (take (e + m - 0) (drop 0 text₁))) r cs fs .text) ≤ length (take (e + m - 0) (drop 0 text₁)))
@@ -121,7 +121,7 @@ module _ (text : List ℕ) (used : ℕ) (row : Row) (cs fs : List ℕ) (f : Span
 
             pub split-moved : (text₂ : List ℕ) → text₂ ≡ renewed (take (e + m - 0) (drop 0 text₁)) e (split isLF isSpace spaces (take e (take (e + m - 0) (drop 0 text₁))) r cs fs .text)
                 → take 0 text₁ ++ (text₂ ++ drop (e + m - 0) (drop 0 text₁)) ≡ renewed text used (split isLF isSpace spaces t r cs fs .text)
-            split-moved text₂ e₂ = rw (e₂, part-is, whole-is, e₁) (opened-back text used e m (split-sizes .0) opens w part-size)
+            split-moved text₂ e₂ = rw (e₂, part-is, whole-is, sub-zero, e₁) (moved-up text used e m (split-sizes .0) opens w part-size)
 
         module _ (eu : view .used ≡ used) (next : View) (en : next ≡ record { used = p .sizes .used; cursor = at (f .row .0) 0; changes = (view .changes + 1) % 2 ^ 64 }) (b : Bool) (eb : b ≡ anyFlag fs) where
           answer : record { view = next; inverse = JoinLines (f .row) (length cs) b; payload = 0; first = 0; second = 0 } ≡ appliedAs view d
