@@ -4,11 +4,12 @@ use mathlib.Core.List.{List, [], _++_, append-assoc}
 use Prim.Native.Nat.{ℕ, _+_, _-_, _≤_, max}
 use native.Mathlib.Nat.{zero-add}
 use native.Mathlib.Omega.{arith}
-use lib.ListN.{length, take, drop, replicate, length-append, length-take, length-drop, length-replicate}
+use lib.ListN.{length, take, drop, replicate, length-append, length-take, length-drop, length-replicate, take-append-drop}
 use lib.Seq.{take-all, take-at, drop-at, take-length, take-take, drop-drop, drop-append-add, paste, length-paste, length-take-le}
 use Rattle.promise.proofs.Lists.{drop-take, tail-whole, tail-back, paste-both}
 use Rattle.text.specs.Rows.{spliced}
 use Rattle.text.specs.Text.{renewed}
+use Rattle.text.proofs.Renewed.{renewed-same}
 use Rattle.splice.specs.Splice.{gapOpened, Gap, gap, gapRemoved, gapClosed}
 
 -- the tail y after its move up, and the buffer t after the payload went in
@@ -93,6 +94,10 @@ module _ (b y t : List ℕ) (used a e : ℕ) (h : a ≤ e) (k : e ≤ used) (roo
 
   pub gap-removed : MovedDown b y t used a e → Cleared b y t used a e → t ≡ gapRemoved b used a e
   gap-removed ey et = closed ey et ∙ close-renewed
+
+-- nothing goes
+pub gap-none : (b : List ℕ) (used a e : ℕ) → used ≤ length b → a ≡ e → b ≡ gapRemoved b used a e
+gap-none b used a e h q = rw (← q) (rw (take-append-drop a (take used b)) (renewed-same b used h))
 
 pub gap-closed : (b t : List ℕ) (used a e : ℕ) (out c : List ℕ) → c ≡ paste out 0 (take (e - a) (drop a b)) (length (take (e - a) (drop a b))) → t ≡ gapRemoved b used a e
     → gap t c ≡ gapClosed b used a e out

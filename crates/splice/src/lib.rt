@@ -85,6 +85,9 @@ pub fn remove(text: &mut [u32], used: usize, start: CharOffset, end: CharOffset)
 {
     let first = start.0;
     let last = end.0;
+    if first == last {
+        return;
+    }
     shift_down(&mut text[first..], used - last, last - first);
     fill(text, CharOffset(first + (used - last)), last - first, 0);
 }
