@@ -95,19 +95,27 @@ fn see_that_edits_agree(opening: &[u32], whole: &Whole) {
     assert_eq!(view.cursor(), original_position(applied.view.cursor));
 }
 
-/// The look at each character that the core takes before anything else. Its call for clamping takes one and little more.
+/// The look at each character that the core takes before anything else, and a row found in the middle of the text: what clamping does.
 pub fn scan() {
-    let core = Core::holding(&cases::mixed_text(CHARACTERS));
-    let text = &core.text[..core.view.used];
-    let origin = Position::default();
-    let by_core = || clamp_position(black_box(&core.text), core.view.used, origin);
-    let by_rust = || all_admissible(black_box(text));
-    assert_eq!((by_core(), by_rust()), (Ok(origin), true));
-    table("scan", &["plain"]);
-    report(
-        &format!("{CHARACTERS} characters"),
-        vec![Side::new(|| timed(by_core)), Side::new(|| timed(by_rust))],
-    );
+    let opening = cases::mixed_text(CHARACTERS);
+    let core = Core::holding(&opening);
+    let middle = cases::edits(&opening)[0].1.edit.start;
+    table("clamping", &["plain"]);
+    for (name, pos) in [
+        ("the scan, and the first row", Position::default()),
+        ("the scan, and a row in the middle", middle),
+    ] {
+        let by_core = || clamp_position(black_box(&core.text), core.view.used, pos);
+        let by_rust = || {
+            let text = black_box(&core.text[..core.view.used]);
+            all_admissible(text).then(|| plain::locate(text, pos).0)
+        };
+        assert_eq!((by_core(), by_rust()), (Ok(pos), Some(pos)));
+        report(
+            name,
+            vec![Side::new(|| timed(by_core)), Side::new(|| timed(by_rust))],
+        );
+    }
 }
 
 pub fn edits() {

@@ -295,7 +295,7 @@ fn row_clamped(text: &[u32], row: u32) -> (u32, Range<usize>) {
 }
 
 /// The position clamped, and its offset.
-fn locate(text: &[u32], at: Position) -> (Position, usize) {
+pub fn locate(text: &[u32], at: Position) -> (Position, usize) {
     let (row, range) = row_clamped(text, at.row);
     let col = range.len().min(at.col as usize);
     (
