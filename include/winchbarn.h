@@ -1,4 +1,5 @@
-/* Winchbarn's core for C and for whatever calls C. The archive is target/staticlib/libwinchbarn.a, made by `rt staticlib winchbarn`.
+/* Winchbarn's core for C and for whatever calls C. The archive is target/staticlib/libwinchbarn.a, made by `rt staticlib winchbarn` for
+ * x86-64; for another machine target/native/libwinchbarn.a, made there by tests/archive.sh.
  *
  * Nothing is required of a caller but what C requires of every pointer with a length: it is aligned and not null, also where the
  * length is 0; as many elements as the length says may be read there, and where the pointer is not const, written; and no slice that

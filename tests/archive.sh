@@ -1,7 +1,7 @@
 #!/usr/bin/env bash
 # Makes the archive for C, target/staticlib/libwinchbarn.a, which is for x86-64. On another machine it makes target/native/libwinchbarn.a beside
-# it: the same LLVM module, compiled by the same compiler with the same options for this machine. That is what is timed and run under
-# valgrind there.
+# it: the same LLVM module, compiled by the same compiler with the same options for this machine. That is what is compared with the
+# original, timed and run under valgrind there.
 set -euo pipefail
 cd "$(dirname "${BASH_SOURCE[0]}")/.."
 machine=$(uname -m)

@@ -30,7 +30,7 @@ struct Put {
 }
 
 // How long the text is once the chunks are in, and where in the text as it is the first row that gets one starts and the
-// last ends.
+// last ends; where none gets one, the text's end.
 struct Extent {
     size: usize,
     start: CharOffset,
@@ -99,7 +99,7 @@ fn put_size(text: &[u32], at: Position, lens: &[u32]) -> Extent
     }
 }
 
-// Puts the chunks in, one to each row. The first begins at `begin`.
+// Puts the chunks in, one to each row. The first of these rows begins at `begin`.
 fn put_rows(
     text: &mut [u32],
     used: usize,

@@ -32,7 +32,7 @@ sizesOf t p ws ds =
       end = charAt (lastEnd t (p .row .0) (length ws));
     }
 
--- cut_rows: the three slices that it writes
+-- cut_rows, cut_block: the three slices that it writes
 pub record Left : Type 0 where
   pub text : List ℕ
   pub out : List ℕ

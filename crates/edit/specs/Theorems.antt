@@ -1,4 +1,4 @@
--- What is proved of these definitions. Demand 3 has a file of its own, and so have the marked examples.
+-- What is proved of these definitions. Demand 3 has a file of its own.
 use mathlib.Core.Bool.{Bool, true, false}
 use mathlib.Core.List.{List, map}
 use mathlib.Core.Path.{_≡_}

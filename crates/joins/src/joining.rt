@@ -40,7 +40,7 @@ pub fn join_turn(text: &[u32], at: CharOffset, left: usize, spaced: bool) -> Joi
     JoinTurn { gap: 0, len }
 }
 
-// How many joins there will be, where the last row for them ends, and how long the text then is.
+// How many joins there will be, where the last row joined ends, and how long the text then is.
 fn join_plan(text: &[u32], found: Span, count: u32, spaced: bool) -> JoinPlan
     requires { ⌜ (length (now text) ≤ textLimit) × (found ≡ span isLF (now text) (found .row .0)) ⌝ }
     ensures { λ r. ⌜ r ≡ joinPlan (now (text .entry)) (found .row .0) count spaced ⌝ }

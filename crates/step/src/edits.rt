@@ -228,6 +228,7 @@ pub fn step_edit(
     requires { ⌜ Ready script (now text) (now marks) × (36_867 ≤ length (now out)) × ((e : AnEdit) × (headOf (lineForm (now line)) ≡ asHead.Edit e)) ⌝ }
     ensures { λ r. ⌜ left r (now (text .exit)) (now (marks .exit)) (now (out .exit)) ≡ leaves (framed (stateOf script (now (text .entry)) (now (marks .entry))) (frameRead (now (line .entry)))) (now (marks .entry)) (now (out .entry)) ⌝ }
 {
+    // An item of a first list takes eight digits or more, one of a second list ten.
     if line.len() <= SHORT_LINE {
         let mut payload = [0u32; SHORT_BYTES];
         let mut first = [0u32; 64];

@@ -1,4 +1,4 @@
-// Reads vectors of UTF-8 from standard input, tries each on `utf8`, and prints how many of each group came out as
+// Reads vectors of UTF-8 from standard input, tries each on `decoding` and `encoding`, and prints how many of each group came out as
 // their lines say. The forms of a line, with all numbers hexadecimal and in upper case:
 //     # COMMENT           passed over, as an empty line is
 //     : TITLE             starts a group

@@ -1,4 +1,4 @@
-// One call of `utf8` on an array full of one value, held to what it must answer and write.
+// One call of `decoding` or `encoding` on an array full of one value, held to what it must answer and write.
 use utf8::Decoded;
 use utf8::Encoded;
 

@@ -3,7 +3,7 @@
 use mathlib.Core.List.{List, []}
 use mathlib.Core.Option.{Option, none, some}
 use Prim.Native.Nat.{ℕ}
-use Rattle.promise.specs.Paper.{Paper, done, refused}
+use Rattle.promise.specs.Paper.{refused}
 use Rattle.utf8.specs.Calls.{Outcome, outcome}
 use Rattle.text.specs.declared.Position.{Position}
 use Rattle.edit.specs.declared.View.{View}

@@ -43,9 +43,9 @@ fn shown(time: Duration) -> String {
 }
 
 fn processor() -> String {
-    let lscpu = Command::new("lscpu").output();
+    let lscpu = Command::new("lscpu").env("LC_ALL", "C").output();
     let told = lscpu.map_or_else(|_| Vec::new(), |output| output.stdout);
-    let told = String::from_utf8_lossy(&told).into_owned();
+    let told = String::from_utf8_lossy(&told);
     let name = told
         .lines()
         .find_map(|line| line.strip_prefix("Model name:"));
@@ -72,7 +72,7 @@ fn main() {
          The clock's own {} are part of each time.",
         shown(clock())
     );
-    measured::scan();
+    measured::clamping();
     measured::edits();
     measured::shifts();
     measured::utf8();

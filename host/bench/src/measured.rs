@@ -95,8 +95,8 @@ fn see_that_edits_agree(opening: &[u32], whole: &Whole) {
     assert_eq!(view.cursor(), original_position(applied.view.cursor));
 }
 
-/// The look at each character that the core takes before anything else, and a row found in the middle of the text: what clamping does.
-pub fn scan() {
+/// What every call begins with, the look at each character, alone and with a row found in the middle of the text.
+pub fn clamping() {
     let opening = cases::mixed_text(CHARACTERS);
     let core = Core::holding(&opening);
     let middle = cases::edits(&opening)[0].1.edit.start;
