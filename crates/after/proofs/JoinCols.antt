@@ -15,10 +15,11 @@ use Rattle.text.specs.declared.Position.{Position}
 use Rattle.text.specs.declared.Span.{Span}
 use Rattle.text.specs.Rows.{Line, line, lines, at, lastRow, rowLen, span}
 use Rattle.text.specs.Text.{isLF}
+use Rattle.text.proofs.Fronts.{behind-front}
 use Rattle.joins.specs.declared.JoinTurn.{JoinTurn}
 use Rattle.joins.specs.Turns.{gapLen, joinTurn}
 use Rattle.joins.proofs.JoinTurns.{belowOf, below-count, Starts}
-use Rattle.joins.proofs.JoinPlans.{Walked, walked-none, walked-within, walked-len, walked-more, starts-at}
+use Rattle.joins.proofs.JoinPlans.{Walked, walked-within, walked-len, walked-more, starts-at}
 use Rattle.after.specs.After.{startCols, afterJoin}
 
 -- ---- the list
@@ -57,7 +58,7 @@ starts-walk t r f e h =
 
 pub walks-none : (t : List ℕ) (down : ℕ) (b : Bool) (end len : ℕ) → Walks t down b end len end len 0 0
 walks-none t down b end len r s h = record {
-  walked = rw (s .ends) (walked-none t r (s .within));
+  walked = rw (s .ends) (behind-front t r (s .within));
   rest = rw (s .long);
   last = λ z. absurd (omega arith);
 }

@@ -3,7 +3,7 @@ use mathlib.Core.Path.{_≡_}
 use mathlib.Core.Bool.{not, _&&_}
 use Prim.Native.Nat.{_≤_}
 use borrow.Author.Tests.{eqb-true}
-use lib.Dec.{T, leb, eqb, leb→le}
+use lib.Dec.{T, eqb, leb→le}
 use lib.ListN.{length}
 use Rattle.promise.proofs.Bools.{T-true, T-left, T-right}
 use Rattle.text.specs.declared.Position.{Position}

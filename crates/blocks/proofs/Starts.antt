@@ -6,7 +6,7 @@ use native.Mathlib.Nat.{add-zero}
 use native.Mathlib.Omega.{arith}
 use lib.ListN.{length, take, drop, length-append, length-take, length-drop, take-append-drop}
 use Rattle.promise.proofs.Lists.{tail-whole}
-use Rattle.text.specs.Rows.{lines, unlines, rowCount, lastRow, rowLen, rowStart, rowEnd, spliced}
+use Rattle.text.specs.Rows.{lines, unlines, rowCount, lastRow, rowLen, rowStart, rowEnd}
 use Rattle.text.specs.Text.{isLF, all}
 use Rattle.text.proofs.Laws.{row-at, len-le, count-last}
 use Rattle.text.proofs.Spots.{row-within}

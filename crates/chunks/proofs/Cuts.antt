@@ -7,8 +7,8 @@ use native.Mathlib.Decide.{decLe}
 use native.Mathlib.Numerals.{add-one}
 use native.Mathlib.Omega.{arith}
 use lib.ListN.{length, take, drop, getD, length-append, length-take, length-drop, length-map, drop-of-length-le}
-use lib.Seq.{paste, slice, take-all, take-append-le, drop-drop, drop-append-le, drop-append-add, getD-drop, length-take-le}
-use Rattle.promise.proofs.Lists.{next, drop-take}
+use lib.Seq.{paste, slice, take-all, take-append-le, drop-drop, drop-append-le, drop-append-add, length-take-le}
+use Rattle.promise.proofs.Lists.{next, first-from, drop-take, take-min}
 use Rattle.text.specs.declared.CharOffset.{CharOffset}
 use Rattle.text.specs.declared.Position.{Position}
 use Rattle.text.specs.Rows.{Line, line, lines, unlines, at, rowCount, lastRow, rowLen, rowStart, rowEnd, offset, spliced, charAt}
@@ -31,12 +31,6 @@ deleted t r c ws ds = chunksDeleted isLF isSpace spaces t (at r c) ws ds
 
 -- ---- one row
 
-take-least : (n : ℕ) (b : List ℕ) → take n b ≡ take (min n (length b)) b
-take-least n b = elim (decLe n (length b)) [
-  | yes h ↦ rw (min-eq-left h)
-  | no h ↦ (let g : length b ≤ n = omega arith in rw (min-eq-right g, take-all n b g, take-all (length b) b (omega arith)))
-]
-
 drop-least : (n : ℕ) (b : List ℕ) → drop n b ≡ drop (min n (length b)) b
 drop-least n b = elim (decLe n (length b)) [
   | yes h ↦ rw (min-eq-left h)
@@ -44,7 +38,7 @@ drop-least n b = elim (decLe n (length b)) [
 ]
 
 cut-spliced : (c d w : ℕ) (b : List ℕ) → take (c - d) b ++ drop (c + w) b ≡ spliced b (min (c - d) (length b)) (min (c + w) (length b)) []
-cut-spliced c d w b = rw (take-least (c - d) b, drop-least (c + w) b)
+cut-spliced c d w b = rw (take-min (c - d) b, drop-least (c + w) b)
 
 -- the chunk, as a part of its row from one place up to another
 chunk-part : (c w : ℕ) (b : List ℕ) → take (min (c + w) (length b) - min c (length b)) (drop (min c (length b)) b) ≡ take w (drop c b)
@@ -52,7 +46,7 @@ chunk-part c w b = elim (decLe c (length b)) [
   | yes h ↦
       let l : length (drop c b) ≡ length b - c = length-drop c b in
       let e : min (c + w) (length b) - c ≡ min w (length (drop c b)) = omega arith in
-      rw (min-eq-left h, e) (sym (take-least w (drop c b)))
+      rw (min-eq-left h, e) (sym (take-min w (drop c b)))
   | no h ↦
       let g : length b ≤ c = omega arith in
       let z : min (c + w) (length b) - length b ≡ 0 = omega arith in
@@ -191,9 +185,6 @@ chunk-length t r c w h =
     let i : n ≤ length (drop o t) = omega (arith, length-drop o t, k .1, k .2) in
     sym (length-take-le n (drop o t) i) ∙ ap length (chunk-here t r c w [] [] h)
 
-pub pad-next : (k : ℕ) (ds : List ℕ) → getD (drop k ds) 0 0 ≡ getD ds k 0
-pad-next k ds = getD-drop k ds 0 0 ∙ ap (λ (i : ℕ). getD ds i 0) (add-zero k)
-
 -- the next row's share of each
 module _ (t : List ℕ) (r c k : ℕ) (ws ds : List ℕ) (h : k < length ws) (l : r + k ≤ lastRow isLF t) where
   on : r + (k + 1) ≡ suc (r + k)
@@ -202,7 +193,7 @@ module _ (t : List ℕ) (r c k : ℕ) (ws ds : List ℕ) (h : k < length ws) (l 
   loss-next : loss c (drop k ws) (drop k ds) (drop (r + k) (lines isLF t))
       ≡ (min (c + getD ws k 0) (rowLen isLF t (r + k)) - min (c - getD ds k 0) (rowLen isLF t (r + k))) + loss c (drop (k + 1) ws) (drop (k + 1) ds) (drop (r + (k + 1)) (lines isLF t))
   unfolding loss rowLen
-  loss-next = rw (next ws k h, row-from t (r + k) l, pad-next k ds, drop-drop 1 k ds, on)
+  loss-next = rw (next ws k h, row-from t (r + k) l, first-from ds k, drop-drop 1 k ds, on)
 
   taken-next : taken c (drop k ws) (drop (r + k) (lines isLF t))
       ≡ length (take (getD ws k 0) (drop c (rowOf t (r + k) .body))) + taken c (drop (k + 1) ws) (drop (r + (k + 1)) (lines isLF t))

@@ -6,7 +6,7 @@ use native.Mathlib.Nat.{add-zero, sub-zero}
 use native.Mathlib.Omega.{arith}
 use lib.ListN.{length, take, drop, getD, set, length-append, length-take, length-drop, length-set, drop-of-length-le, take-append-drop}
 use lib.Seq.{paste, slice, sets, sets-eq, length-sets, take-length, take-take, drop-drop, length-take-le}
-use Rattle.promise.proofs.Lists.{next, drop-take}
+use Rattle.promise.proofs.Lists.{next, first-from, drop-take}
 use Rattle.promise.specs.Slices.{over}
 use Rattle.text.specs.Rows.{lines, at, rowCount, lastRow, rowLen, rowStart, offset, spliced}
 use Rattle.text.specs.Text.{isLF, renewed}
@@ -21,7 +21,7 @@ use Rattle.edit.proofs.Blocks.{chunks-le}
 use Rattle.blocks.proofs.Starts.{Begins, begins-first}
 use Rattle.chunks.specs.declared.Cut.{Cut}
 use Rattle.chunks.specs.Chunks.{cutAt, left, leftBy}
-use Rattle.chunks.proofs.Cuts.{deleted, order, pad-next, chunk-here, chunk-length, cut-text, cut-payload, cut-first, cut-count, cut-start, gone-row, payload-length, first-length}
+use Rattle.chunks.proofs.Cuts.{deleted, order, chunk-here, chunk-length, cut-text, cut-payload, cut-first, cut-count, cut-start, gone-row, payload-length, first-length}
 
 pub record Cutting (b₀ : List ℕ) (used r c : ℕ) (ws ds o₀ l₀ b o l : List ℕ) (long start filled k : ℕ) : Type 0 where
   pub within : k ≤ length ws
@@ -112,7 +112,7 @@ module _ {b₀ : List ℕ} {used r c : ℕ} {ws ds o₀ l₀ b o l : List ℕ} {
   v-length = let q = in-order in omega (arith, length-append (take i u) (drop j u), length-take i u, length-drop j u, u-length)
 
   v-here : v ≡ spliced u (offset isLF u (at (r + k) (c - getD (drop k ds) 0 0))) j []
-  v-here = rw (pad-next k ds)
+  v-here = rw (first-from ds k)
 
   on : r + (k + 1) ≡ suc (r + k)
   on = omega arith
@@ -137,7 +137,7 @@ module _ {b₀ : List ℕ} {used r c : ℕ} {ws ds o₀ l₀ b o l : List ℕ} {
   begins-more : (start₁ : ℕ) → start₁ ≡ rowStart isLF u (r + k) + rowLen isLF u (r + k) - (j - i) + 1 → Begins v r (length ws) (k + 1) start₁
   begins-more start₁ es n =
       let g : r + k < lastRow isLF u = omega (arith, count-last isLF u, s .rows) in
-      let z : offset isLF u (at (r + k) (c - getD (drop k ds) 0 0)) ≡ i = rw (pad-next k ds) in
+      let z : offset isLF u (at (r + k) (c - getD (drop k ds) 0 0)) ≡ i = rw (first-from ds k) in
       es ∙ rw on (sym (rw z at (cut-start u (r + k) c w (drop (k + 1) ws) (drop k ds) row-now v v-here g)))
 
   -- b₁ and o₁ are left by the cut, l₁ by the store, and start₁ is behind the row as it then is

@@ -7,15 +7,14 @@ use Prim.Native.Nat.{ℕ, _-_, max}
 use lib.ListN.{length, replicate}
 use Rattle.promise.specs.Paper.{done, refused}
 use Rattle.text.specs.declared.Position.{Position}
-use Rattle.text.specs.Rows.{at, rowCount}
-use Rattle.text.specs.Text.{isLF}
+use Rattle.text.specs.Rows.{at}
 use Rattle.edit.specs.declared.MotionKind.the-variants.{Char, Line as Lines, Block}
 use Rattle.edit.specs.declared.Edit.{Edit}
 use Rattle.edit.specs.declared.Edit.the-variants.{InsertChar, InsertStr, DeleteRange, JoinLines, SplitLines, Replace, InsertBlock, DeleteBlockChunks}
 use Rattle.edit.specs.Edits.{Whole, whole, edited, rowAt}
-use Rattle.edit.specs.Call.{outcome, nextView, undoable}
+use Rattle.edit.specs.Call.{outcome, nextView}
 use Rattle.edit.specs.Runs.{Run, edits, stages}
-use Rattle.edit.specs.Demand3.{State, text, Beside, viewAt, lentAt, called, Undoable}
+use Rattle.edit.specs.Demand3.{State, text, Beside, called, Undoable}
 
 -- a text in a buffer of 16 places, with 7 in those behind it; slices of 8 and 4 places, full of 9
 abbrev pub opened : List ℕ → State

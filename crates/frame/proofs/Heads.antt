@@ -1,5 +1,5 @@
 -- What a line's form is, by its head.
-use mathlib.Core.Path.{_≡_, refl, ap, _∙_, subst}
+use mathlib.Core.Path.{_≡_, refl, ap, subst}
 use mathlib.Core.Bool.{Bool, true, false, cond, _&&_}
 use mathlib.Core.List.{List, [], _∷_}
 use Prim.Native.Nat.{ℕ, suc, _-_, _%_, _≤_}
@@ -119,9 +119,6 @@ told b =
 -- the form of bytes by their head
 pub form-by-head : (b : List ℕ) (h : Head) → headOf (formOf b) ≡ h → Said b (formOf b) h
 form-by-head b h e = subst (Said b (formOf b)) e (told b)
-
-pub form-by-edit : (b : List ℕ) (e e′ : Edit) → headOf (formOf b) ≡ asHead.Edit e → e ≡ e′ → Said b (formOf b) (asHead.Edit e′)
-form-by-edit b e e′ h q = form-by-head b (asHead.Edit e′) (h ∙ ap asHead.Edit q)
 
 -- the form that has the head of a malformed line, and of a mark
 pub malformed-by-head : (g : Form) → headOf g ≡ asHead.Malformed → g ≡ malformed

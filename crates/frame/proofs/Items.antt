@@ -13,7 +13,6 @@ use Rattle.promise.proofs.Lists.{next}
 use Rattle.text.specs.Text.{all}
 use Rattle.frame.specs.Numbers.{numberIn, items}
 use Rattle.frame.specs.Forms.{columnsIn, flagsIn, flagged, widthsIn, padsIn}
-use Rattle.frame.proofs.Fours.{number-drop, number-front}
 
 module _ (k : ℕ) (f : List ℕ → ℕ) where
   pub length-items : (n : ℕ) (s : List ℕ) → length (items k n f s) ≡ n
@@ -40,7 +39,7 @@ module _ (k : ℕ) (f : List ℕ → ℕ) where
       let m : suc n - suc i ≡ n - i = omega arith in
       rw m (drop-items n (drop k s) i ∙ rw (drop-drop (i * k) k s, e))
 
--- the lists of a split and of chunks: how long they are, and what stands at i
+-- the lists of a split and of chunks: how long they are, and the flag at i
 module _ (s : List ℕ) where
   pub length-columns : length (columnsIn s) ≡ length s / 5
   unfolding columnsIn
@@ -58,21 +57,9 @@ module _ (s : List ℕ) where
   unfolding padsIn
   length-pads = length-items 8 (λ t. numberIn t 4) (length s / 8) s
 
-  pub column-at : (i : ℕ) → i < length s / 5 → getD (columnsIn s) i 0 ≡ numberIn s (i * 5)
-  unfolding columnsIn
-  column-at i h = items-at 5 (λ t. numberIn t 0) (length s / 5) s i h ∙ number-front s (i * 5)
-
   pub flag-at : (i : ℕ) → i < length s / 5 → getD (flagsIn s) i 0 ≡ getD s (i * 5 + 4) 0
   unfolding flagsIn
   flag-at i h = items-at 5 (λ t. getD t 4 0) (length s / 5) s i h ∙ getD-drop (i * 5) s 4 0
-
-  pub width-at : (i : ℕ) → i < length s / 8 → getD (widthsIn s) i 0 ≡ numberIn s (i * 8)
-  unfolding widthsIn
-  width-at i h = items-at 8 (λ t. numberIn t 0) (length s / 8) s i h ∙ number-front s (i * 8)
-
-  pub pad-at : (i : ℕ) → i < length s / 8 → getD (padsIn s) i 0 ≡ numberIn s (i * 8 + 4)
-  unfolding padsIn
-  pad-at i h = items-at 8 (λ t. numberIn t 4) (length s / 8) s i h ∙ number-drop s (i * 8) 4
 
 -- the flags from i on
 abbrev pub flagsFrom : List ℕ → ℕ → Bool

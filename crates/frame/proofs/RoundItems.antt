@@ -16,14 +16,8 @@ use Rattle.frame.specs.Numbers.{number, numberIn, items}
 use Rattle.frame.specs.Format.{columnBytes, widthBytes}
 use Rattle.frame.specs.Forms.{columnsIn, flagsIn, widthsIn, padsIn}
 use Rattle.frame.specs.Theorems.{word}
+use Rattle.frame.proofs.Items.{length-columns, length-flags, length-widths, length-pads}
 use Rattle.frame.proofs.RoundNumbers.{bytes-cons, bytes-drop, number-joins, number-at, word-bytes}
-
--- ---- any items
-
-pub items-length : (k n : ℕ) (f : List ℕ → ℕ) (s : List ℕ) → length (items k n f s) ≡ n
-unfolding items
-items-length k zero f s = refl
-items-length k (suc n) f s = ap suc (items-length k n f (drop k s))
 
 -- ---- columns and flags
 
@@ -56,8 +50,7 @@ unfolding flagsIn
 flags-read cs fs e = rw (columns-long cs fs, fifths) (flags-back cs fs e)
 
 pub columns-flags : (s : List ℕ) → length (columnsIn s) ≡ length (flagsIn s)
-unfolding columnsIn flagsIn
-columns-flags s = items-length 5 (length s / 5) (λ i. numberIn i 0) s ∙ sym (items-length 5 (length s / 5) (λ i. getD i 4 0) s)
+columns-flags s = length-columns s ∙ sym (length-flags s)
 
 columns-again : (n : ℕ) (s : List ℕ) → Bytes s → length s ≡ n * 5
     → columnBytes (items 5 n (λ i. numberIn i 0) s) (items 5 n (λ i. getD i 4 0) s) ≡ s
@@ -112,8 +105,7 @@ unfolding padsIn
 pads-read ws ds e = rw (widths-long ws ds, eighths) (pads-back ws ds e)
 
 pub widths-pads : (s : List ℕ) → length (widthsIn s) ≡ length (padsIn s)
-unfolding widthsIn padsIn
-widths-pads s = items-length 8 (length s / 8) (λ i. numberIn i 0) s ∙ sym (items-length 8 (length s / 8) (λ i. numberIn i 4) s)
+widths-pads s = length-widths s ∙ sym (length-pads s)
 
 widths-again : (n : ℕ) (s : List ℕ) → Bytes s → length s ≡ n * 8
     → widthBytes (items 8 n (λ i. numberIn i 0) s) (items 8 n (λ i. numberIn i 4) s) ≡ s

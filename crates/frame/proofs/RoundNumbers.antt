@@ -3,18 +3,19 @@ use mathlib.Core.Path.{_≡_, refl, ap}
 use mathlib.Core.Bool.{true}
 use mathlib.Core.List.{List, [], _∷_, _++_}
 use Prim.Native.Nat.{ℕ, zero, suc, _+_, _*_, _/_, _%_, _≤_, _<_}
-use native.Mathlib.Nat.{add-zero, div-add-mod'}
+use native.Mathlib.Nat.{div-add-mod'}
 use native.Mathlib.Omega.{arith}
 use borrow.Author.Tests.{leb-true, ltb-true, le-leb}
 use lib.Dec.{leb}
 use lib.ListN.{length, drop, getD, length-drop}
-use lib.Seq.{getD-drop, drop-drop}
+use lib.Seq.{drop-drop}
 use Rattle.promise.proofs.Bools.{both, both-true, T-true}
 use Rattle.text.specs.Text.{all}
 use Rattle.text.proofs.Alls.{all-append, all-drop}
 use Rattle.hex.specs.Theorems.{Bytes}
 use Rattle.frame.specs.Numbers.{number, numberIn}
 use Rattle.frame.specs.Theorems.{word}
+use Rattle.frame.proofs.Fours.{number-front}
 
 -- ---- bytes
 
@@ -70,11 +71,7 @@ first-number (a ∷ b ∷ c ∷ d ∷ s) e h =
     let t = a ∷ b ∷ c ∷ d ∷ s in
     ap (λ (n : List ℕ). n ++ s) (number-splits a b c d (byte-at t 1 e) (byte-at t 2 e) (byte-at t 3 e))
 
-number-dropped : (b : List ℕ) (i : ℕ) → numberIn (drop i b) 0 ≡ numberIn b i
-unfolding numberIn
-number-dropped b i = rw (getD-drop i b 0 0, getD-drop i b 1 0, getD-drop i b 2 0, getD-drop i b 3 0, add-zero)
-
 -- the number at i, and what stands behind it
 pub number-at : (b : List ℕ) (i : ℕ) → Bytes b → i + 4 ≤ length b → number (numberIn b i) ++ drop (i + 4) b ≡ drop i b
 number-at b i e h =
-    rw (← number-dropped b i, ← drop-drop 4 i b) (first-number (drop i b) (bytes-drop i b e) (omega (arith, length-drop i b)))
+    rw (← number-front b i, ← drop-drop 4 i b) (first-number (drop i b) (bytes-drop i b e) (omega (arith, length-drop i b)))

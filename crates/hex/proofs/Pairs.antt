@@ -13,7 +13,6 @@ use lib.Seq.{drop-nil, getD-drop}
 use Rattle.promise.proofs.Bools.{both}
 use Rattle.promise.proofs.Lists.{next, next-2}
 use Rattle.hex.specs.Digits.{isDigit, valueOf, digitOf, hexed, unhexed, paired}
-use Rattle.hex.proofs.Digits.{pair-byte}
 
 pub hexed-length : (bs : List ℕ) → length (hexed bs) ≡ length bs * 2
 unfolding hexed
@@ -85,9 +84,6 @@ module _ (l : List ℕ) (i : ℕ) (h : i < length l / 2) where
 
   pub unhexed-at : getD (unhexed l) i 0 ≡ valueOf (getD l (i * 2) 0) * 16 + valueOf (getD l (i * 2 + 1) 0)
   unhexed-at = ap (λ (n : ℕ). getD (unhexed l) n 0) (sym (add-zero i)) ∙ sym (getD-drop i (unhexed l) 0 0) ∙ ap (λ (s : List ℕ). getD s 0 0) unhexed-next
-
-  pub unhexed-small : paired l ≡ true → getD (unhexed l) i 0 < 256
-  unhexed-small e = let d = digits-at e in rw unhexed-at (pair-byte (getD l (i * 2) 0) (getD l (i * 2 + 1) 0) (d .0) (d .1))
 
 pub hexed-next : (bs : List ℕ) (i : ℕ) → i < length bs
     → drop (i * 2) (hexed bs) ≡ digitOf (getD bs i 0 / 16) ∷ digitOf (getD bs i 0 % 16) ∷ hexed (drop (i + 1) bs)

@@ -3,12 +3,12 @@ use mathlib.Core.Path.{_≡_, refl, sym, ap, _∙_}
 use mathlib.Core.Bool.{_&&_, _||_}
 use mathlib.Core.List.{List, [], _∷_, _++_, append-assoc}
 use Prim.Native.Nat.{ℕ, zero, suc, _+_, _≤_, _<_, min}
-use native.Mathlib.Nat.{add-zero}
 use native.Mathlib.Numerals.{add-one}
 use native.Mathlib.Omega.{arith}
 use lib.Dec.{eqb, leb}
 use lib.ListN.{length, take, drop, getD, length-append, length-take, length-drop}
-use lib.Seq.{slice, length-slice, drop-cons, drop-drop, drop-length, getD-drop, take-take, take-append-le, take-append-add, drop-append-seam, length-take-le}
+use lib.Seq.{slice, length-slice, drop-cons, drop-drop, drop-length, take-take, take-append-le, take-append-add, drop-append-seam, length-take-le}
+use Rattle.promise.proofs.Lists.{first-from}
 use Rattle.text.specs.declared.Span.{Span}
 use Rattle.text.specs.Rows.{Line, line, lines, unlines, lastRow, rowLen, rowStart, rowEnd, span, spliced}
 use Rattle.text.specs.Text.{isLF}
@@ -145,16 +145,13 @@ module _ (t : List ℕ) (r : ℕ) (h : r ≤ lastRow isLF t) (cs fs : List ℕ) 
   flags-rest : drop 1 (drop j fs) ≡ drop (suc j) fs
   flags-rest = drop-drop 1 j fs ∙ rw (add-one j)
 
-  flag-is : getD (drop j fs) 0 0 ≡ getD fs j 0
-  flag-is = getD-drop j fs 0 0 ∙ rw (add-zero j)
-
   pub within-more : withinAll (rowOf t r) (drop j cs) (drop j fs) ≡ ((eqb (getD fs j 0) 0 || leb (getD cs j 0) (leftTo t r cs (suc j))) && withinAll (rowOf t r) (drop (suc j) cs) (drop (suc j) fs))
-  within-more = ap (λ (d : List ℕ). withinAll (rowOf t r) d (drop j fs)) cols-cons ∙ within-cons t r h (getD cs j 0) (drop (suc j) cs) (drop j fs) ∙ rw (flag-is, flags-rest)
+  within-more = ap (λ (d : List ℕ). withinAll (rowOf t r) d (drop j fs)) cols-cons ∙ within-cons t r h (getD cs j 0) (drop (suc j) cs) (drop j fs) ∙ rw (first-from fs j, flags-rest)
 
   module _ (u : List ℕ) (q : slice (rowStart isLF t r) (rowStart isLF t r + leftTo t r cs (suc j)) u ≡ take (leftTo t r cs (suc j)) (rowOf t r .body))
       (y : SplitTurn) (e : y ≡ splitTurn u (rowStart isLF t r) (rowStart isLF t r + leftTo t r cs (suc j)) (getD cs j 0) (getD fs j 0)) where
     turn-now : y ≡ splitTurn u (rowStart isLF t r) (rowStart isLF t r + leftTo t r cs (suc j)) (getD cs j 0) (getD (drop j fs) 0 0)
-    turn-now = rw flag-is e
+    turn-now = rw (first-from fs j) e
 
     pub turn-at : y .at .0 ≡ rowStart isLF t r + leftTo t r cs j
     turn-at = rw cols-cons (at-is t r h (getD cs j 0) (drop (suc j) cs) (drop j fs) u q y turn-now)

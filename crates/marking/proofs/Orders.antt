@@ -6,7 +6,7 @@ use Prim.Native.Nat.{ℕ}
 use native.Mathlib.Nat.{min-comm, max-comm}
 use borrow.Author.Tests.{le-leb}
 use Rattle.text.specs.declared.Position.{Position}
-use Rattle.text.specs.Rows.{upto, earlier, later, inText}
+use Rattle.text.specs.Rows.{upto, earlier, later}
 use Rattle.text.specs.Text.{isLF}
 use Rattle.text.proofs.Order.{row-le, earlier-swap, later-swap, earlier-later}
 use Rattle.edit.specs.declared.View.{View}
@@ -15,7 +15,7 @@ use Rattle.edit.specs.declared.Edit.{Edit}
 use Rattle.edit.specs.declared.Edit.the-variants.{InsertChar, InsertStr, DeleteRange, JoinLines, SplitLines, Replace, InsertBlock, DeleteBlockChunks}
 use Rattle.edit.specs.Edits.{charsDeleted, linesDeleted, replaced, rangeDeleted, editedBy}
 use Rattle.edit.specs.Refusals.{isSpace, spaces, small, smallPosition, smallRange, smallOk, fewRows, fewOk, payloadOk, withinOk}
-use Rattle.edit.specs.Call.{Lent, resultOf, applied, rangeUndoable, isUndoable, undoable}
+use Rattle.edit.specs.Call.{Lent, resultOf, applied}
 use Rattle.shift.specs.Call.{orderedRange, orderedOk}
 use Rattle.marking.specs.InOrder.{inOrder}
 
@@ -108,26 +108,6 @@ edited-same (DeleteBlockChunks p) x f s t = refl
 pub applied-same : (v : View) (e : Edit) (l : Lent) → applied v (inOrder e) l ≡ applied v e l
 unfolding applied resultOf
 applied-same v e l = rw (small-same, few-same, payload-same, within-same, edited-same)
-
-stands-same : (t : List ℕ) (p q : Position) → inText isLF t (earlier (earlier p q) (later p q)) ≡ inText isLF t (earlier p q)
-stands-same t p q = ordered (λ a b. inText isLF t (earlier a b)) p q (rw (earlier-swap q p))
-
-yes-same : (t : List ℕ) (e : Edit) → isUndoable t (inOrder e) ≡ isUndoable t e
-unfolding inOrder isUndoable rangeUndoable
-yes-same t (InsertChar p) = refl
-yes-same t (InsertStr p) = refl
-yes-same t (DeleteRange p q Char) = stands-same t p q
-yes-same t (DeleteRange p q Line) = refl
-yes-same t (DeleteRange p q Block) = refl
-yes-same t (JoinLines r n b) = refl
-yes-same t (SplitLines r) = refl
-yes-same t (Replace p q) = stands-same t p q
-yes-same t (InsertBlock p) = refl
-yes-same t (DeleteBlockChunks p) = refl
-
-pub undoable-same : (v : View) (e : Edit) (l : Lent) → undoable v (inOrder e) l ≡ undoable v e l
-unfolding undoable
-undoable-same v e l = rw (small-same, few-same, payload-same, yes-same)
 
 pub in-order : (e : Edit) → orderedOk (inOrder e) ≡ true
 unfolding inOrder orderedOk orderedRange

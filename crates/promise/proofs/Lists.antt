@@ -2,12 +2,12 @@
 use mathlib.Core.Path.{_≡_, _∙_}
 use mathlib.Core.List.{List, [], _∷_, _++_, append-nil, append-assoc}
 use Prim.Native.Nat.{ℕ, zero, suc, _+_, _-_, _≤_, _<_, min}
-use native.Mathlib.Nat.{sub-zero, min-eq-left, min-eq-right}
+use native.Mathlib.Nat.{add-zero, sub-zero, min-eq-left, min-eq-right}
 use native.Mathlib.Decide.{decLe}
 use native.Mathlib.Numerals.{add-one}
 use native.Mathlib.Omega.{arith}
 use lib.ListN.{length, take, drop, getD, set, length-append, length-take, length-drop, drop-of-length-le}
-use lib.Seq.{drop-cons, take-nil, take-all, take-length, take-take, append-snoc, set-at, paste, take-at, drop-drop, drop-append-add}
+use lib.Seq.{drop-cons, getD-drop, take-nil, take-all, take-length, take-take, append-snoc, set-at, paste, take-at, drop-drop, drop-append-add}
 use Rattle.promise.specs.Slices.{over}
 
 -- a scan's turn: what stands at i, and what is left
@@ -23,6 +23,10 @@ next-3 s i h = let e : i + 3 ≡ i + 2 + 1 = omega arith in next-2 s i (omega ar
 pub next-4 : (s : List ℕ) (i : ℕ) → i + 3 < length s
     → drop i s ≡ getD s i 0 ∷ getD s (i + 1) 0 ∷ getD s (i + 2) 0 ∷ getD s (i + 3) 0 ∷ drop (i + 4) s
 next-4 s i h = let e : i + 4 ≡ i + 3 + 1 = omega arith in next-3 s i (omega arith) ∙ rw (e, next s (i + 3) h)
+
+-- the first of what stands from i on
+pub first-from : (s : List ℕ) (i : ℕ) → getD (drop i s) 0 0 ≡ getD s i 0
+first-from s i = getD-drop i s 0 0 ∙ rw add-zero
 
 -- the part from a on of a front of u elements
 pub drop-take : (a u : ℕ) (s : List ℕ) → drop a (take u s) ≡ take (u - a) (drop a s)

@@ -1,7 +1,7 @@
 -- A well-formed string, decoded behind what the payload holds already.
 use mathlib.Core.Path.{_≡_, ap, _∙_}
 use mathlib.Core.List.{List, [], _∷_, _++_, append-assoc}
-use Prim.Native.Nat.{ℕ, _+_, _-_, _≤_}
+use Prim.Native.Nat.{ℕ, _-_, _≤_}
 use native.Mathlib.Omega.{arith}
 use lib.ListN.{length, take, drop, length-append, length-drop}
 use lib.Seq.{paste, take-length, drop-drop}
@@ -12,7 +12,7 @@ use Rattle.utf8.specs.Reading.{Reading, scalars, reading, writing}
 use Rattle.utf8.specs.Calls.{Outcome, outcome, decoded, scalarsOf, fillable}
 use Rattle.utf8.proofs.Numbers.{octets-len}
 use Rattle.utf8.proofs.Theorems.{writes-read}
-use Rattle.reader.proofs.Decodes.{stored-fits}
+use Rattle.utf8.proofs.Theorems.{stored-room}
 
 -- a string has no more characters than bytes
 pub written-more : (cs : List ℕ) → length cs ≤ length (writing cs)
@@ -32,7 +32,7 @@ module _ (s p : List ℕ) (from : ℕ) (y : List ℕ) (h : from ≤ length p) (g
   unfolding decoded
   decoded-whole =
       let k : length (scalarsOf (reading s)) ≤ length (drop from p) = simp length-drop (g .1) in
-      ap (λ (x : List ℕ). decoded (reading s) x) (tail-whole p from) ∙ ap (λ (r : Reading). decoded r (drop from p)) (g .0) ∙ stored-fits (scalarsOf (reading s)) (drop from p) k
+      ap (λ (x : List ℕ). decoded (reading s) x) (tail-whole p from) ∙ ap (λ (r : Reading). decoded r (drop from p)) (g .0) ∙ stored-room (scalarsOf (reading s)) (drop from p) k
 
   pub behind-done : (n : ℕ) → Behind (done n)
       → (n ≡ length (scalarsOf (reading s)))

@@ -5,7 +5,7 @@ use mathlib.Core.List.{List, [], _∷_, flatten, append-nil}
 use Prim.Native.Nat.{ℕ, _+_, _-_, _≤_, _<_}
 use native.Mathlib.Decide.{decLe}
 use native.Mathlib.Omega.{arith}
-use borrow.Author.Tests.{le-leb, lt-leb, le-ltb, lt-ltb}
+use borrow.Author.Tests.{le-leb, lt-leb, lt-ltb}
 use lib.Dec.{ltb}
 use lib.ListN.{length, take, drop, length-append, length-drop}
 use Rattle.promise.specs.Paper.{Paper, done, refused}
@@ -13,7 +13,7 @@ use Rattle.promise.specs.Slices.{over}
 use Rattle.promise.proofs.Lists.{tail-whole}
 use Rattle.utf8.specs.Reading.{Reading, scalars, badAt, reading}
 use Rattle.utf8.specs.Calls.{Outcome, outcome, stored, decoded}
-use Rattle.utf8.proofs.Theorems.{bad-places}
+use Rattle.utf8.proofs.Theorems.{bad-places, stored-room}
 use Rattle.edit.specs.declared.Edit.{Edit}
 use Rattle.frame.specs.Reads.{Contents, chars, badFrom, ahead, contents, firstList, textOf, editOf}
 use Rattle.reader.specs.Calls.{Read, text, edit, filled, frameInto, readInto, charsInto}
@@ -93,11 +93,7 @@ module _ (b : List ℕ) (from : ℕ) (x t : List ℕ) where
       let d = decoded-bad (reading (drop from b)) x t k (e ∙ whole) in
       let w = simp length-drop at (bad-within (drop from b) k (d .0)) in omega arith
 
--- characters that are stored, or refused by 8
-pub stored-fits : (cs x : List ℕ) → length cs ≤ length x → stored cs x ≡ outcome (done (length cs)) (over cs x)
-unfolding stored
-stored-fits cs x h = rw (le-ltb _ _ h)
-
+-- characters that are refused by 8
 stored-short : (cs x : List ℕ) → length x < length cs → stored cs x ≡ outcome (refused 8 0) x
 unfolding stored
 stored-short cs x h = rw (lt-ltb _ _ h)
@@ -112,7 +108,7 @@ unfolding charsInto textOf readInto frameInto
 text-read (badFrom k) a x t f s e = ap (λ (o : Outcome). filled (asText (o .answer)) (o .out) f s) e
 text-read (chars xs) a x t f s e =
     elim (decLe (length (flatten xs)) (length x)) [
-      | yes h ↦ ap (λ (o : Outcome). filled (asText (o .answer)) (o .out) f s) (e ∙ stored-fits (flatten xs) x h) ∙ rw (le-leb _ _ h)
+      | yes h ↦ ap (λ (o : Outcome). filled (asText (o .answer)) (o .out) f s) (e ∙ stored-room (flatten xs) x h) ∙ rw (le-leb _ _ h)
       | no h ↦
           (let k : length x < length (flatten xs) = omega arith in
           ap (λ (o : Outcome). filled (asText (o .answer)) (o .out) f s) (e ∙ stored-short (flatten xs) x k) ∙ rw (lt-leb _ _ k))
@@ -130,7 +126,7 @@ string-read e (badFrom k) a x t f s l q = ap (λ (o : Outcome). filled (asEdit e
 string-read e (chars xs) a x t f s l q =
     elim (decLe (length (flatten xs)) (length x)) [
       | yes h ↦
-          ap (λ (o : Outcome). filled (asEdit e (o .answer)) (o .out) f s) (q ∙ stored-fits (flatten xs) x h)
+          ap (λ (o : Outcome). filled (asEdit e (o .answer)) (o .out) f s) (q ∙ stored-room (flatten xs) x h)
           ∙ rw (l xs) (edit-fits e (flatten xs) [] [] x f s h (omega arith) (omega arith))
       | no h ↦
           (let k : length x < length (flatten xs) = omega arith in

@@ -2,7 +2,7 @@
 use mathlib.Core.Path.{_≡_, _∙_}
 use mathlib.Core.Bool.{and-false}
 use mathlib.Core.List.{List, []}
-use Prim.Native.Nat.{ℕ, _/_, _≤_, _<_}
+use Prim.Native.Nat.{ℕ, _≤_, _<_}
 use native.Mathlib.Omega.{arith}
 use borrow.Author.Tests.{le-leb, lt-leb}
 use lib.Dec.{leb}
@@ -12,8 +12,6 @@ use Rattle.promise.specs.Slices.{over}
 use Rattle.edit.specs.declared.Edit.{Edit}
 use Rattle.edit.specs.Edits.{whole}
 use Rattle.frame.specs.Format as format
-use Rattle.frame.specs.Forms.{columnsIn, flagsIn, widthsIn, padsIn}
-use Rattle.frame.proofs.Items.{length-items}
 use Rattle.reader.specs.Calls.{edit, filled, frameInto, readInto}
 
 module _ (e : Edit) (p fs ss x f s : List ℕ) where
@@ -47,19 +45,3 @@ module _ (e : Edit) (fs ss x f s : List ℕ) (n : ℕ) (p : length fs ≡ n) (q 
 
   pub second-lacks : length s < n → filled (refused 8 0) x f s ≡ readInto (done (format.edit (whole e [] fs ss))) x f s
   second-lacks h = second-short e [] fs ss x f s (omega arith)
-
-pub columns-many : (s : List ℕ) → length (columnsIn s) ≡ length s / 5
-unfolding columnsIn
-columns-many s = length-items 5 _ (length s / 5) s
-
-pub flags-many : (s : List ℕ) → length (flagsIn s) ≡ length s / 5
-unfolding flagsIn
-flags-many s = length-items 5 _ (length s / 5) s
-
-pub widths-many : (s : List ℕ) → length (widthsIn s) ≡ length s / 8
-unfolding widthsIn
-widths-many s = length-items 8 _ (length s / 8) s
-
-pub pads-many : (s : List ℕ) → length (padsIn s) ≡ length s / 8
-unfolding padsIn
-pads-many s = length-items 8 _ (length s / 8) s

@@ -28,7 +28,7 @@ module _ (t : List ℕ) (j : ℕ) (h : j ≤ lastRow isLF t) where
       ap (take (length A + length (z .body))) (text-around t j h) ∙ take-append-add A (wholeRow z ++ B) (length (z .body))
       ∙ rw (append-assoc (z .body) (z .after) B, take-append-seam (z .body) (z .after ++ B), unlines-append (take j (lines isLF t)) (bared z ∷ []), append-nil)
 
-  pub front-lines : lines isLF (take (rowEnd isLF t j) t) ≡ take j (lines isLF t) ++ bared (rowOf t j) ∷ []
+  front-lines : lines isLF (take (rowEnd isLF t j) t) ≡ take j (lines isLF t) ++ bared (rowOf t j) ∷ []
   front-lines = ap (lines isLF) front-text ∙ rows-changed t j h (bared (rowOf t j) ∷ []) (ended-bared (rows-below t j h))
 
   pub behind-front : drop (rowEnd isLF t j) t ≡ rowOf t j .after ++ unlines (drop (suc j) (lines isLF t))

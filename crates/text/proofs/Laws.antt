@@ -4,7 +4,7 @@ use mathlib.Core.Bool.{Bool, true, false, cond}
 use mathlib.Core.List.{List, [], _∷_, _++_}
 use Prim.Native.Nat.{ℕ, zero, suc, _≤_, _+_, _-_, _<_, min}
 use native.Mathlib.Omega.{arith}
-use lib.ListN.{length, take, drop, take-append-drop}
+use lib.ListN.{length, take, drop}
 use Rattle.text.specs.Rows.{Line, line, onto, lines, unlines, rowCount, rowLen, rowStart, lastRow, clamp, offset, endOf, at, _⊕_}
 use native.Mathlib.Nat.{zero-add, add-assoc, sub-zero, suc-sub-suc}
 use borrow.Author.Tests.{ne-eqb}
@@ -311,11 +311,6 @@ module _ {A : Type 0} (lf : A → Bool) where
   end-take t p = end-at t (p .row .0) (p .col .0)
 
   -- ---- corollaries
-
-  pub clamp-clamp : (t : List A) (p : Position) → clamp lf t (clamp lf t p) ≡ clamp lf t p
-  clamp-clamp t p =
-      let o = offset lf t p in
-      rw (← end-take t p) (ap (λ (s : List A). clamp lf s (endOf lf (take o t))) (sym (take-append-drop o t)) ∙ clamp-end (take o t) (drop o t))
 
   pub start-le : (t : List A) (r : ℕ) → rowStart lf t r ≤ length t
   start-le t zero = rw (start-first lf t) (omega arith)

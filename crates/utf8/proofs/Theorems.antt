@@ -145,7 +145,7 @@ stored-done xs out n e = go (ltb (length out) (length xs)) e
     go true e = let z : _≡_ {A = ℕ} 0 1 = cc in absurd (omega arith)
     go false e = let l : length xs ≡ n = cc in rw (← l, take-append-seam)
 
-stored-room : (xs back : List ℕ) → length xs ≤ length back → stored xs back ≡ outcome (done (length xs)) (over xs back)
+pub stored-room : (xs back : List ℕ) → length xs ≤ length back → stored xs back ≡ outcome (done (length xs)) (over xs back)
 stored-room xs back h = sym (stored-all xs back (length xs) refl (over xs back) h refl)
 
 pub decodes-encoded : DecodesEncoded

@@ -3,16 +3,15 @@ use mathlib.Core.Path.{_≡_, refl, sym, ap, _∙_}
 use mathlib.Core.Bool.{Bool, true, false, cond}
 use mathlib.Core.List.{List, [], _∷_, _++_}
 use Prim.Native.Nat.{ℕ, zero, suc, _+_, _-_, _*_, _≤_, _<_}
-use native.Mathlib.Nat.{add-zero}
 use native.Mathlib.Omega.{arith}
 use borrow.Author.Tests.{leb-true}
 use lib.Dec.{leb}
 use lib.ListN.{length, take, drop, getD, length-append, length-drop, drop-of-length-le, take-append-drop}
-use lib.Seq.{getD-drop, drop-drop, paste}
+use lib.Seq.{drop-drop, paste}
 use Rattle.promise.specs.Paper.{done, refused}
 use Rattle.promise.specs.Slices.{over}
 use Rattle.promise.proofs.Bools.{both}
-use Rattle.promise.proofs.Lists.{next}
+use Rattle.promise.proofs.Lists.{next, first-from}
 use Rattle.text.specs.Text.{all}
 use Rattle.utf8.specs.Reading.{allScalar, writing}
 use Rattle.utf8.specs.Calls.{octetCount}
@@ -23,11 +22,8 @@ use Rattle.frame.specs.Numbers.{number}
 use Rattle.frame.specs.Format.{columnBytes, widthBytes, chunkBytes}
 use Rattle.writer.proofs.Pasted.{Filled, fill-room, fill-more, fill-end}
 
--- what stands at i of the second list
+-- the second list from i on
 module _ (s : List ℕ) (i : ℕ) where
-  here : getD (drop i s) 0 0 ≡ getD s i 0
-  here = getD-drop i s 0 0 ∙ rw add-zero
-
   onward : drop 1 (drop i s) ≡ drop (i + 1) s
   onward = drop-drop 1 i s
 
@@ -50,7 +46,7 @@ columns-length (c ∷ f) s = omega (arith, columns-length f (drop 1 s))
 columns-next : (f s : List ℕ) (i : ℕ) → i < length f
     → columnBytes (drop i f) (drop i s) ≡ (number (getD f i 0) ++ (getD s i 0 ∷ [])) ++ columnBytes (drop (i + 1) f) (drop (i + 1) s)
 unfolding columnBytes
-columns-next f s i h = rw (next f i h, here s i, onward s i)
+columns-next f s i h = rw (next f i h, first-from s i, onward s i)
 
 columns-end : (f s : List ℕ) (i : ℕ) → length f ≤ i → columnBytes (drop i f) (drop i s) ≡ []
 unfolding columnBytes
@@ -83,7 +79,7 @@ widths-length (w ∷ f) s = omega (arith, widths-length f (drop 1 s))
 widths-next : (f s : List ℕ) (i : ℕ) → i < length f
     → widthBytes (drop i f) (drop i s) ≡ (number (getD f i 0) ++ number (getD s i 0)) ++ widthBytes (drop (i + 1) f) (drop (i + 1) s)
 unfolding widthBytes
-widths-next f s i h = rw (next f i h, here s i, onward s i)
+widths-next f s i h = rw (next f i h, first-from s i, onward s i)
 
 widths-end : (f s : List ℕ) (i : ℕ) → length f ≤ i → widthBytes (drop i f) (drop i s) ≡ []
 unfolding widthBytes

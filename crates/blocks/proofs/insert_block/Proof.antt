@@ -12,16 +12,6 @@ use native.Mathlib.Omega.{arith}
 use borrow.Author.Needs.{needs}
 use Rattle.blocks.proofs.insert_block.Statement.{statement}
 use Rattle.blocks.proofs.insert_block.Tie as tie
-use Rattle.blocks.proofs.insert_block.Reads as reads
-use Rattle.blocks.proofs.insert_block.Lts as lts
-use Rattle.blocks.proofs.put_chunks.Reads as put-chunks-reads
-use Rattle.blocks.proofs.put_size.Reads as put-size-reads
-use Rattle.blocks.proofs.rows_from.Reads as rows-from-reads
-use Rattle.plan.proofs.judge.Reads as judge-reads
-use Rattle.plan.proofs.next_view.Reads as next-view-reads
-use Rattle.splice.proofs.copy_in.Reads as copy-in-reads
-use Rattle.splice.proofs.fill.Reads as fill-reads
-use Rattle.text.proofs.clamp.Reads as clamp-reads
 
 planned : (c : tie.After-judge) → planOf (putFrom (c .before .before .before .before .before .before .before .before .before .before .before .before .before .args .text .now) (c .before .before .before .before .before .before .before .before .before .before .before .before .before .args .view .used) (c .before .before .before .before .before .before .before .before .before .before .before .before .before .args .at) (c .before .before .before .before .before .before .before .before .before .before .before .before .before .args .payload .now) (c .before .before .before .before .before .before .before .before .before .before .before .before .before .args .lens .now))
     ≡ record { used = c .before .put-size .result .size; payload = 0; first = length (c .before .before .before .before .before .before .before .before .before .before .before .before .before .args .lens .now); second = length (c .before .before .before .before .before .before .before .before .before .before .before .before .before .args .lens .now) }

@@ -4,10 +4,6 @@ use native.Mathlib.Omega.{arith}
 use borrow.Author.Needs.{needs}
 use Rattle.blocks.proofs.put_chunks.Statement.{statement}
 use Rattle.blocks.proofs.put_chunks.Tie as tie
-use Rattle.blocks.proofs.put_chunks.Reads as reads
-use Rattle.blocks.proofs.put_chunks.Lts as lts
-use Rattle.blocks.proofs.put_rows.Reads as put-rows-reads
-use Rattle.splice.proofs.open_padded.Reads as open-padded-reads
 
 fits : (s : tie.Start) → (s .args .extent .end .0 ≤ s .args .used) × (s .args .used ≤ s .args .extent .size)
 fits s = let a = s .args in extent-fits (a .text .now) (a .used) (a .at) (a .payload .now) (a .lens .now) (a .extent .size) (a .extent .end .0) (s .pre .0) (s .pre .3) (s .pre .4) (s .pre .6) (s .pre .8) (s .pre .9)

@@ -5,10 +5,6 @@ use native.Mathlib.Omega.{arith}
 use borrow.Author.Needs.{needs}
 use Rattle.blocks.proofs.put_rows.Statement.{statement}
 use Rattle.blocks.proofs.put_rows.Tie as tie
-use Rattle.blocks.proofs.put_rows.Reads as reads
-use Rattle.blocks.proofs.put_rows.Lts as lts
-use Rattle.blocks.proofs.put_splice.Reads as put-splice-reads
-use Rattle.splice.proofs.open_padded.Reads as open-padded-reads
 
 abbrev Inv-loop : tie.InvT-loop
 Inv-loop text₀ used payload lens pads₀ row col long₀ start₀ from₀ k₀ text pads long start from k = Putting text₀ used row (col .0) payload lens pads₀ text pads long start from k

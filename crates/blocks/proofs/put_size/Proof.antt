@@ -14,10 +14,6 @@ use native.Mathlib.Omega.{arith}
 use borrow.Author.Needs.{needs}
 use Rattle.blocks.proofs.put_size.Statement.{statement}
 use Rattle.blocks.proofs.put_size.Tie as tie
-use Rattle.blocks.proofs.put_size.Reads as reads
-use Rattle.blocks.proofs.put_size.Lts as lts
-use Rattle.blocks.proofs.put_splice.Reads as put-splice-reads
-use Rattle.text.proofs.line_to_char.Reads as line-to-char-reads
 
 abbrev Inv-loop : tie.InvT-loop
 Inv-loop text lens row col size₀ end₀ first start₀ k₀ size end start k = (k ≤ length lens) × (size ≤ 16384 + k * 10_000_000_000) × (size + growth (col .0) (drop k lens) (drop (row + k) (lines isLF text)) ≡ length text + growth (col .0) lens (drop row (lines isLF text))) × Begins text row (length lens) k start × (end ≡ lastEnd text row k)

@@ -3,10 +3,6 @@ use native.Mathlib.Omega.{arith}
 use borrow.Author.Needs.{needs}
 use Rattle.chunks.proofs.cut_block.Statement.{statement}
 use Rattle.chunks.proofs.cut_block.Tie as tie
-use Rattle.chunks.proofs.cut_block.Reads as reads
-use Rattle.chunks.proofs.cut_block.Lts as lts
-use Rattle.chunks.proofs.cut_rows.Reads as cut-rows-reads
-use Rattle.splice.proofs.remove.Reads as remove-reads
 
 sub-gone : tie.Need-sub-gone
 sub-gone c = let a = c .before .before .before .before .before .before .before .args in let p = c .before .before .before .before .before .before .before .pre in omega (arith, gone-within (a .text .now) (a .used) (a .at) (a .widths .now) (a .pads .now) (a .sizes) (p .7) (p .0) (p .4) .0)

@@ -2,10 +2,6 @@ use Rattle.chunks.proofs.Cuts.{row-cut}
 use borrow.Author.Needs.{needs}
 use Rattle.chunks.proofs.cut_row.Statement.{statement}
 use Rattle.chunks.proofs.cut_row.Tie as tie
-use Rattle.chunks.proofs.cut_row.Reads as reads
-use Rattle.chunks.proofs.cut_row.Lts as lts
-use Rattle.splice.proofs.copy_in.Reads as copy-in-reads
-use Rattle.splice.proofs.remove.Reads as remove-reads
 
 mul-copy-in : tie.Need-mul-copy-in
 mul-copy-in c = search needs

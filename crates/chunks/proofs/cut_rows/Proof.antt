@@ -5,11 +5,6 @@ use native.Mathlib.Omega.{arith}
 use borrow.Author.Needs.{needs}
 use Rattle.chunks.proofs.cut_rows.Statement.{statement}
 use Rattle.chunks.proofs.cut_rows.Tie as tie
-use Rattle.chunks.proofs.cut_rows.Reads as reads
-use Rattle.chunks.proofs.cut_rows.Lts as lts
-use Rattle.chunks.proofs.cut_row.Reads as cut-row-reads
-use Rattle.chunks.proofs.cut_splice.Reads as cut-splice-reads
-use Rattle.chunks.proofs.pad_at.Reads as pad-at-reads
 
 abbrev Inv-loop : tie.InvT-loop
 Inv-loop text₀ used widths pads out₀ lens₀ row col long₀ start₀ filled₀ k₀ text out lens long start filled k = Cutting text₀ used row (col .0) widths pads out₀ lens₀ text out lens long start filled k

@@ -6,11 +6,6 @@ use native.Mathlib.Omega.{arith}
 use borrow.Author.Needs.{needs}
 use Rattle.chunks.proofs.cut_size.Statement.{statement}
 use Rattle.chunks.proofs.cut_size.Tie as tie
-use Rattle.chunks.proofs.cut_size.Reads as reads
-use Rattle.chunks.proofs.cut_size.Lts as lts
-use Rattle.chunks.proofs.cut_splice.Reads as cut-splice-reads
-use Rattle.chunks.proofs.pad_at.Reads as pad-at-reads
-use Rattle.text.proofs.line_to_char.Reads as line-to-char-reads
 
 abbrev Inv-loop : tie.InvT-loop
 Inv-loop text widths pads row col first gone₀ payload₀ start₀ end₀ k₀ gone payload start end k = Sizing text row (col .0) widths pads gone payload start end k

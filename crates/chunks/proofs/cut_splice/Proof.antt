@@ -6,10 +6,6 @@ use native.Mathlib.Omega.{arith}
 use borrow.Author.Needs.{needs}
 use Rattle.chunks.proofs.cut_splice.Statement.{statement}
 use Rattle.chunks.proofs.cut_splice.Tie as tie
-use Rattle.chunks.proofs.cut_splice.Reads as reads
-use Rattle.chunks.proofs.cut_splice.Lts as lts
-use Rattle.text.proofs.Col.min.Reads as min-reads
-use Rattle.text.proofs.line_char_count.Reads as line-char-count-reads
 
 mul-line-char-count : tie.Need-mul-line-char-count
 mul-line-char-count c = omega (arith, start-le isLF (c .before .args .text .now) (c .before .args .pos .row .0), c .before .pre .2)

@@ -8,11 +8,6 @@ use mathlib.Core.Path.{_∙_, ap}
 use borrow.Author.Needs.{needs}
 use Rattle.chunks.proofs.delete_block.Statement.{statement}
 use Rattle.chunks.proofs.delete_block.Tie as tie
-use Rattle.chunks.proofs.delete_block.Reads as reads
-use Rattle.chunks.proofs.delete_block.Lts as lts
-use Rattle.chunks.proofs.delete_chunks.Reads as delete-chunks-reads
-use Rattle.text.proofs.Col.min.Reads as Col-min-reads
-use Rattle.text.proofs.Row.min.Reads as Row-min-reads
 
 extent-requires : tie.Need-extent-requires
 extent-requires c κs = search needs

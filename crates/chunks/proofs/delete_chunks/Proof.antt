@@ -12,15 +12,6 @@ use native.Mathlib.Omega.{arith}
 use borrow.Author.Needs.{needs}
 use Rattle.chunks.proofs.delete_chunks.Statement.{statement}
 use Rattle.chunks.proofs.delete_chunks.Tie as tie
-use Rattle.chunks.proofs.delete_chunks.Reads as reads
-use Rattle.chunks.proofs.delete_chunks.Lts as lts
-use Rattle.blocks.proofs.rows_from.Reads as rows-from-reads
-use Rattle.chunks.proofs.cut_block.Reads as cut-block-reads
-use Rattle.chunks.proofs.cut_size.Reads as cut-size-reads
-use Rattle.plan.proofs.judge.Reads as judge-reads
-use Rattle.plan.proofs.next_view.Reads as next-view-reads
-use Rattle.splice.proofs.fill.Reads as fill-reads
-use Rattle.text.proofs.clamp.Reads as clamp-reads
 
 planned : (c : tie.After-judge) → planOf (cutFrom (c .before .before .before .before .before .before .before .before .before .before .before .before .before .args .text .now) (c .before .before .before .before .before .before .before .before .before .before .before .before .before .args .view .used) (c .before .before .before .before .before .before .before .before .before .before .before .before .before .args .at) (c .before .before .before .before .before .before .before .before .before .before .before .before .before .args .widths .now) (c .before .before .before .before .before .before .before .before .before .before .before .before .before .args .pads .now))
     ≡ record { used = c .before .cut-size .result .used; payload = c .before .cut-size .result .payload; first = length (c .before .before .before .before .before .before .before .before .before .before .before .before .before .args .widths .now); second = 0 }

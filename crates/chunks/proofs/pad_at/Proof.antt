@@ -4,8 +4,6 @@ use native.Mathlib.Omega.{arith}
 use borrow.Author.Needs.{needs}
 use Rattle.chunks.proofs.pad_at.Statement.{statement}
 use Rattle.chunks.proofs.pad_at.Tie as tie
-use Rattle.chunks.proofs.pad_at.Reads as reads
-use Rattle.chunks.proofs.pad_at.Lts as lts
 
 mul-result : tie.Need-mul-result
 mul-result c = search needs

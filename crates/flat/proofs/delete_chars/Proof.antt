@@ -11,14 +11,6 @@ use Rattle.flat.proofs.Deleting.{char-within, char-plan, char-done}
 use borrow.Author.Needs.{needs}
 use Rattle.flat.proofs.delete_chars.Statement.{statement}
 use Rattle.flat.proofs.delete_chars.Tie as tie
-use Rattle.flat.proofs.delete_chars.Reads as reads
-use Rattle.flat.proofs.delete_chars.Lts as lts
-use Rattle.flat.proofs.cuts.char_cut.Reads as char-cut-reads
-use Rattle.flat.proofs.judge_flat.Reads as judge-flat-reads
-use Rattle.plan.proofs.next_view.Reads as next-view-reads
-use Rattle.splice.proofs.close_gap.Reads as close-gap-reads
-use Rattle.text.proofs.Position.min.Reads as min-reads
-use Rattle.text.proofs.clamp.Reads as clamp-reads
 
 min-requires : tie.Need-min-requires
 min-requires c κs = search needs

@@ -11,14 +11,6 @@ use Rattle.flat.proofs.Deleting.{line-within, line-plan, line-done}
 use borrow.Author.Needs.{needs}
 use Rattle.flat.proofs.delete_lines.Statement.{statement}
 use Rattle.flat.proofs.delete_lines.Tie as tie
-use Rattle.flat.proofs.delete_lines.Reads as reads
-use Rattle.flat.proofs.delete_lines.Lts as lts
-use Rattle.flat.proofs.cuts.line_cut.Reads as line-cut-reads
-use Rattle.flat.proofs.judge_flat.Reads as judge-flat-reads
-use Rattle.plan.proofs.next_view.Reads as next-view-reads
-use Rattle.splice.proofs.close_gap.Reads as close-gap-reads
-use Rattle.text.proofs.Row.min.Reads as min-reads
-use Rattle.text.proofs.last_row.Reads as last-row-reads
 
 sub-line-cut : tie.Need-sub-line-cut
 sub-line-cut c = search needs

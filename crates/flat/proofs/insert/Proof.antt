@@ -13,13 +13,6 @@ use native.Mathlib.Omega.{arith}
 use borrow.Author.Needs.{needs}
 use Rattle.flat.proofs.insert.Statement.{statement}
 use Rattle.flat.proofs.insert.Tie as tie
-use Rattle.flat.proofs.insert.Reads as reads
-use Rattle.flat.proofs.insert.Lts as lts
-use Rattle.plan.proofs.end_after.Reads as end-after-reads
-use Rattle.flat.proofs.judge_flat.Reads as judge-flat-reads
-use Rattle.plan.proofs.next_view.Reads as next-view-reads
-use Rattle.splice.proofs.open_gap.Reads as open-gap-reads
-use Rattle.text.proofs.locate.Reads as locate-reads
 
 add-size : tie.Need-add-size
 add-size c = search needs

@@ -12,16 +12,6 @@ use native.Mathlib.Omega.{arith}
 use borrow.Author.Needs.{needs}
 use Rattle.flat.proofs.replace.Statement.{statement}
 use Rattle.flat.proofs.replace.Tie as tie
-use Rattle.flat.proofs.replace.Reads as reads
-use Rattle.flat.proofs.replace.Lts as lts
-use Rattle.flat.proofs.cuts.char_cut.Reads as char-cut-reads
-use Rattle.plan.proofs.end_after.Reads as end-after-reads
-use Rattle.flat.proofs.judge_flat.Reads as judge-flat-reads
-use Rattle.plan.proofs.next_view.Reads as next-view-reads
-use Rattle.splice.proofs.close_gap.Reads as close-gap-reads
-use Rattle.splice.proofs.open_gap.Reads as open-gap-reads
-use Rattle.text.proofs.Position.min.Reads as min-reads
-use Rattle.text.proofs.locate.Reads as locate-reads
 
 min-requires : tie.Need-min-requires
 min-requires c κs = search needs

@@ -3,7 +3,6 @@ use lib.ListN.{replicate}
 use Rattle.reader.proofs.EditLines.{line-fits, zeros-roomy, read-edit, read-refused, no-text, no-mark}
 use Rattle.frame.specs.Reads.{frameRead}
 use Rattle.framed.proofs.AmongEdits.{held-applied, refusal-applied}
-use native.Mathlib.Omega.{arith}
 use borrow.Author.Needs.{needs}
 use Rattle.framed.proofs.apply_edit_line.Statement.{statement}
 use Rattle.framed.proofs.apply_edit_line.Tie as tie

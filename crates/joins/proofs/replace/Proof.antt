@@ -3,11 +3,6 @@ use native.Mathlib.Omega.{arith}
 use borrow.Author.Needs.{needs}
 use Rattle.joins.proofs.replace.Statement.{statement}
 use Rattle.joins.proofs.replace.Tie as tie
-use Rattle.joins.proofs.replace.Reads as reads
-use Rattle.joins.proofs.replace.Lts as lts
-use Rattle.splice.proofs.copy_in.Reads as copy-in-reads
-use Rattle.splice.proofs.open_gap.Reads as open-gap-reads
-use Rattle.splice.proofs.remove.Reads as remove-reads
 
 open-gap-requires : tie.Need-open-gap-requires
 open-gap-requires c κs = search needs

@@ -3,10 +3,6 @@ use lib.ListN.{length}
 use borrow.Author.Needs.{needs}
 use Rattle.marks.proofs.replay_lines.Statement.{statement}
 use Rattle.marks.proofs.replay_lines.Tie as tie
-use Rattle.marks.proofs.replay_lines.Reads as reads
-use Rattle.marks.proofs.replay_lines.Lts as lts
-use Rattle.lines.proofs.part_at.Reads as part-at-reads
-use Rattle.marks.proofs.replay_line.Reads as replay-line-reads
 
 abbrev Inv-loop : tie.InvT-loop
 Inv-loop text start₀ start = start ≤ length text

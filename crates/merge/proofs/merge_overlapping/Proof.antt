@@ -3,11 +3,6 @@ use native.Mathlib.Omega.{arith}
 use borrow.Author.Needs.{needs}
 use Rattle.merge.proofs.merge_overlapping.Statement.{statement}
 use Rattle.merge.proofs.merge_overlapping.Tie as tie
-use Rattle.merge.proofs.merge_overlapping.Reads as reads
-use Rattle.merge.proofs.merge_overlapping.Lts as lts
-use Rattle.merge.proofs.collapsing.collapse.Reads as collapse-reads
-use Rattle.sorting.proofs.copy.Reads as copy-reads
-use Rattle.sorting.proofs.sort.Reads as sort-reads
 
 returns : tie.Need-returns
 returns c = let a = c .before .before .before .args in too-many (a .sels .now) (a .out .now) (c .if1 .taken)

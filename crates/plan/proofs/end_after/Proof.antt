@@ -5,10 +5,6 @@ use native.Mathlib.Omega.{arith}
 use borrow.Author.Needs.{needs}
 use Rattle.plan.proofs.end_after.Statement.{statement}
 use Rattle.plan.proofs.end_after.Tie as tie
-use Rattle.plan.proofs.end_after.Reads as reads
-use Rattle.plan.proofs.end_after.Lts as lts
-use Rattle.text.proofs.last_row.Reads as last-row-reads
-use Rattle.text.proofs.line_char_count.Reads as line-char-count-reads
 
 last-row-requires : tie.Need-last-row-requires
 last-row-requires c κs = search needs

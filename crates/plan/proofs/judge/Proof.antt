@@ -1,8 +1,6 @@
 use Rattle.plan.proofs.Judged.{judged-7, judged-8, judged-9, judged-fine}
 use Rattle.plan.proofs.judge.Statement.{statement}
 use Rattle.plan.proofs.judge.Tie as tie
-use Rattle.plan.proofs.judge.Reads as reads
-use Rattle.plan.proofs.judge.Lts as lts
 
 returns : tie.Need-returns
 returns c = let a = c .before .args in λ d e. judged-7 (a .room) (a .plan) d e (a .within) (c .if1 .taken)

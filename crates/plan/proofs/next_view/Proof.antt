@@ -3,10 +3,6 @@ use Prim.Native.Nat.{ℕ}
 use borrow.Author.Needs.{needs}
 use Rattle.plan.proofs.next_view.Statement.{statement}
 use Rattle.plan.proofs.next_view.Tie as tie
-use Rattle.plan.proofs.next_view.Reads as reads
-use Rattle.plan.proofs.next_view.Lts as lts
-use Rattle.edit.proofs.View.renew.Reads as renew-reads
-use Rattle.std.proofs.num.wrapping_add_u64.Reads as wrapping-add-u64-reads
 
 wrapping-add-u64-requires : tie.Need-wrapping-add-u64-requires
 wrapping-add-u64-requires c κs = search needs

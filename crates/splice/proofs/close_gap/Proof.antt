@@ -2,10 +2,6 @@ use Rattle.splice.proofs.Gaps.{gap-closed}
 use borrow.Author.Needs.{needs}
 use Rattle.splice.proofs.close_gap.Statement.{statement}
 use Rattle.splice.proofs.close_gap.Tie as tie
-use Rattle.splice.proofs.close_gap.Reads as reads
-use Rattle.splice.proofs.close_gap.Lts as lts
-use Rattle.splice.proofs.copy_in.Reads as copy-in-reads
-use Rattle.splice.proofs.remove.Reads as remove-reads
 
 mul-copy-in : tie.Need-mul-copy-in
 mul-copy-in c = search needs

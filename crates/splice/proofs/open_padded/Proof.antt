@@ -2,11 +2,6 @@ use Rattle.splice.proofs.Gaps.{gap-padded}
 use borrow.Author.Needs.{needs}
 use Rattle.splice.proofs.open_padded.Statement.{statement}
 use Rattle.splice.proofs.open_padded.Tie as tie
-use Rattle.splice.proofs.open_padded.Reads as reads
-use Rattle.splice.proofs.open_padded.Lts as lts
-use Rattle.splice.proofs.copy_in.Reads as copy-in-reads
-use Rattle.splice.proofs.fill.Reads as fill-reads
-use Rattle.splice.proofs.shift_up.Reads as shift-up-reads
 
 mul-shift-up : tie.Need-mul-shift-up
 mul-shift-up c = search needs

@@ -2,10 +2,6 @@ use Rattle.splice.proofs.Gaps.{gap-none, gap-removed}
 use borrow.Author.Needs.{needs}
 use Rattle.splice.proofs.remove.Statement.{statement}
 use Rattle.splice.proofs.remove.Tie as tie
-use Rattle.splice.proofs.remove.Reads as reads
-use Rattle.splice.proofs.remove.Lts as lts
-use Rattle.splice.proofs.fill.Reads as fill-reads
-use Rattle.splice.proofs.shift_down.Reads as shift-down-reads
 
 returns : tie.Need-returns
 returns c = let a = c .before .before .args in gap-none (a .text .now) (a .used) (a .start .0) (a .end .0) (c .before .before .pre .2) (c .if1 .taken)

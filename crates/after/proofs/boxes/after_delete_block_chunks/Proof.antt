@@ -3,8 +3,6 @@ use native.Mathlib.Omega.{arith}
 use borrow.Author.Needs.{needs}
 use Rattle.after.proofs.boxes.after_delete_block_chunks.Statement.{statement}
 use Rattle.after.proofs.boxes.after_delete_block_chunks.Tie as tie
-use Rattle.after.proofs.boxes.after_delete_block_chunks.Reads as reads
-use Rattle.after.proofs.boxes.after_delete_block_chunks.Lts as lts
 
 returns : tie.Need-returns
 returns c = let a = c .before .args in cut-outside (a .pos) (a .at) (a .widths .now) (c .if1 .taken)

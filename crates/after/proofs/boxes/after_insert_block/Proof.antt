@@ -4,8 +4,6 @@ use native.Mathlib.Omega.{arith}
 use borrow.Author.Needs.{needs}
 use Rattle.after.proofs.boxes.after_insert_block.Statement.{statement}
 use Rattle.after.proofs.boxes.after_insert_block.Tie as tie
-use Rattle.after.proofs.boxes.after_insert_block.Reads as reads
-use Rattle.after.proofs.boxes.after_insert_block.Lts as lts
 
 returns : tie.Need-returns
 returns c = let a = c .before .args in put-outside (a .pos) (a .at) (a .lens .now) (c .if1 .taken)

@@ -6,9 +6,6 @@ use Rattle.after.proofs.Deletes.{delete-before, delete-inside, delete-i
 use borrow.Author.Needs.{needs}
 use Rattle.after.proofs.chars.after_delete_char.Statement.{statement}
 use Rattle.after.proofs.chars.after_delete_char.Tie as tie
-use Rattle.after.proofs.chars.after_delete_char.Reads as reads
-use Rattle.after.proofs.chars.after_delete_char.Lts as lts
-use Rattle.text.proofs.Position.le.Reads as le-reads
 
 le-requires : tie.Need-le-requires
 le-requires c κs = search needs

@@ -9,11 +9,6 @@ use native.Mathlib.Omega.{arith}
 use borrow.Author.Needs.{needs}
 use Rattle.after.proofs.chars.after_insert.Statement.{statement}
 use Rattle.after.proofs.chars.after_insert.Tie as tie
-use Rattle.after.proofs.chars.after_insert.Reads as reads
-use Rattle.after.proofs.chars.after_insert.Lts as lts
-use Rattle.text.proofs.Position.le.Reads as le-reads
-use Rattle.text.proofs.last_row.Reads as last-row-reads
-use Rattle.text.proofs.line_char_count.Reads as line-char-count-reads
 
 le-requires : tie.Need-le-requires
 le-requires c κs = search needs

@@ -5,11 +5,6 @@ use native.Mathlib.Omega.{arith}
 use borrow.Author.Needs.{needs}
 use Rattle.after.proofs.rows.after_join.Statement.{statement}
 use Rattle.after.proofs.rows.after_join.Tie as tie
-use Rattle.after.proofs.rows.after_join.Reads as reads
-use Rattle.after.proofs.rows.after_join.Lts as lts
-use Rattle.after.proofs.rows.joins_made.Reads as joins-made-reads
-use Rattle.after.proofs.rows.start_col.Reads as start-col-reads
-use Rattle.text.proofs.last_row.Reads as last-row-reads
 
 returns : tie.Need-returns
 returns c = let a = c .before .before .args in join-above (a .pos) (a .row .0) (a .count) (a .spaced) (a .text .now) (c .if1 .taken)

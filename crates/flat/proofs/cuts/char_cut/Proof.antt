@@ -2,12 +2,6 @@ use Rattle.flat.proofs.Cutting.{char-cut}
 use borrow.Author.Needs.{needs}
 use Rattle.flat.proofs.cuts.char_cut.Statement.{statement}
 use Rattle.flat.proofs.cuts.char_cut.Tie as tie
-use Rattle.flat.proofs.cuts.char_cut.Reads as reads
-use Rattle.flat.proofs.cuts.char_cut.Lts as lts
-use Rattle.text.proofs.CharOffset.max.Reads as CharOffset-max-reads
-use Rattle.text.proofs.Position.max.Reads as Position-max-reads
-use Rattle.text.proofs.Position.min.Reads as min-reads
-use Rattle.text.proofs.locate.Reads as locate-reads
 
 min-requires : tie.Need-min-requires
 min-requires c κs = search needs

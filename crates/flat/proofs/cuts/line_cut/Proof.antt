@@ -5,13 +5,6 @@ use native.Mathlib.Omega.{arith}
 use borrow.Author.Needs.{needs}
 use Rattle.flat.proofs.cuts.line_cut.Statement.{statement}
 use Rattle.flat.proofs.cuts.line_cut.Tie as tie
-use Rattle.flat.proofs.cuts.line_cut.Reads as reads
-use Rattle.flat.proofs.cuts.line_cut.Lts as lts
-use Rattle.flat.proofs.cuts.rows_between.Reads as rows-between-reads
-use Rattle.flat.proofs.cuts.rows_to_end.Reads as rows-to-end-reads
-use Rattle.text.proofs.Row.max.Reads as max-reads
-use Rattle.text.proofs.Row.min.Reads as min-reads
-use Rattle.text.proofs.last_row.Reads as last-row-reads
 
 last-row-requires : tie.Need-last-row-requires
 last-row-requires c κs = search needs

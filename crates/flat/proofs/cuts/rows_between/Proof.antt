@@ -5,9 +5,6 @@ use native.Mathlib.Omega.{arith}
 use borrow.Author.Needs.{needs}
 use Rattle.flat.proofs.cuts.rows_between.Statement.{statement}
 use Rattle.flat.proofs.cuts.rows_between.Tie as tie
-use Rattle.flat.proofs.cuts.rows_between.Reads as reads
-use Rattle.flat.proofs.cuts.rows_between.Lts as lts
-use Rattle.text.proofs.line_to_char.Reads as line-to-char-reads
 
 line-to-char-requires : tie.Need-line-to-char-requires
 line-to-char-requires c κs = search needs

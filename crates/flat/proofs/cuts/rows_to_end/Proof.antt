@@ -5,9 +5,6 @@ use native.Mathlib.Omega.{arith}
 use borrow.Author.Needs.{needs}
 use Rattle.flat.proofs.cuts.rows_to_end.Statement.{statement}
 use Rattle.flat.proofs.cuts.rows_to_end.Tie as tie
-use Rattle.flat.proofs.cuts.rows_to_end.Reads as reads
-use Rattle.flat.proofs.cuts.rows_to_end.Lts as lts
-use Rattle.text.proofs.find_row.Reads as find-row-reads
 
 sub-t9 : tie.Need-sub-t9
 sub-t9 c = search needs

@@ -7,13 +7,6 @@ use native.Mathlib.Omega.{arith}
 use borrow.Author.Needs.{needs}
 use Rattle.joins.proofs.joining.join.Statement.{statement}
 use Rattle.joins.proofs.joining.join.Tie as tie
-use Rattle.joins.proofs.joining.join.Reads as reads
-use Rattle.joins.proofs.joining.join.Lts as lts
-use Rattle.joins.proofs.joining.join_plan.Reads as join-plan-reads
-use Rattle.joins.proofs.joining.join_rows.Reads as join-rows-reads
-use Rattle.plan.proofs.judge.Reads as judge-reads
-use Rattle.plan.proofs.next_view.Reads as next-view-reads
-use Rattle.text.proofs.find_row.Reads as find-row-reads
 
 sub-find-row : tie.Need-sub-find-row
 sub-find-row c = search needs

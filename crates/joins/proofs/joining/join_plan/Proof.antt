@@ -7,9 +7,6 @@ use Rattle.joins.proofs.JoinPlans.{Planning, planning-none, planning-mo
 use borrow.Author.Needs.{needs}
 use Rattle.joins.proofs.joining.join_plan.Statement.{statement}
 use Rattle.joins.proofs.joining.join_plan.Tie as tie
-use Rattle.joins.proofs.joining.join_plan.Reads as reads
-use Rattle.joins.proofs.joining.join_plan.Lts as lts
-use Rattle.joins.proofs.joining.join_turn.Reads as join-turn-reads
 
 abbrev Inv-loop : tie.InvT-loop
 Inv-loop text count spaced used₀ at₀ left₀ made₀ used at left made = (made ≤ at) × (at ≤ length text) × (used ≤ length text) × Planning text count spaced at₀ left₀ used at left made

@@ -9,10 +9,6 @@ use Rattle.joins.proofs.JoinStores.{Storing, storing-none, storing-with
 use borrow.Author.Needs.{needs}
 use Rattle.joins.proofs.joining.join_rows.Statement.{statement}
 use Rattle.joins.proofs.joining.join_rows.Tie as tie
-use Rattle.joins.proofs.joining.join_rows.Reads as reads
-use Rattle.joins.proofs.joining.join_rows.Lts as lts
-use Rattle.joins.proofs.joining.join_turn.Reads as join-turn-reads
-use Rattle.joins.proofs.replace.Reads as replace-reads
 
 abbrev Inv-loop : tie.InvT-loop
 Inv-loop text₀ used count spaced cols₀ flags₀ space start n₀ left₀ k₀ text cols flags n left k = (k ≤ count) × (n ≤ used) × (length text ≡ length text₀) × (length cols ≡ length cols₀) × (length flags ≡ length flags₀) × Storing text₀ cols₀ flags₀ used count spaced start left₀ text cols flags n left k

@@ -2,9 +2,6 @@ use Rattle.joins.proofs.JoinRows.{turn-spaced, turn-bare}
 use borrow.Author.Needs.{needs}
 use Rattle.joins.proofs.joining.join_turn.Statement.{statement}
 use Rattle.joins.proofs.joining.join_turn.Tie as tie
-use Rattle.joins.proofs.joining.join_turn.Reads as reads
-use Rattle.joins.proofs.joining.join_turn.Lts as lts
-use Rattle.text.proofs.line_char_count.Reads as line-char-count-reads
 
 add-next : tie.Need-add-next
 add-next c = search needs

@@ -7,8 +7,6 @@ use native.Mathlib.Omega.{arith}
 use borrow.Author.Needs.{needs}
 use Rattle.joins.proofs.splitting.any_flag.Statement.{statement}
 use Rattle.joins.proofs.splitting.any_flag.Tie as tie
-use Rattle.joins.proofs.splitting.any_flag.Reads as reads
-use Rattle.joins.proofs.splitting.any_flag.Lts as lts
 
 abbrev Inv-loop : tie.InvT-loop
 Inv-loop flags i₀ i = (i ≤ length flags) × (anyFlag (drop i flags) ≡ anyFlag flags)

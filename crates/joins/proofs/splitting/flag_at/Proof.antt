@@ -4,8 +4,6 @@ use native.Mathlib.Omega.{arith}
 use borrow.Author.Needs.{needs}
 use Rattle.joins.proofs.splitting.flag_at.Statement.{statement}
 use Rattle.joins.proofs.splitting.flag_at.Tie as tie
-use Rattle.joins.proofs.splitting.flag_at.Reads as reads
-use Rattle.joins.proofs.splitting.flag_at.Lts as lts
 
 mul-result : tie.Need-mul-result
 mul-result c = search needs

@@ -7,14 +7,6 @@ use native.Mathlib.Omega.{arith}
 use borrow.Author.Needs.{needs}
 use Rattle.joins.proofs.splitting.split.Statement.{statement}
 use Rattle.joins.proofs.splitting.split.Tie as tie
-use Rattle.joins.proofs.splitting.split.Reads as reads
-use Rattle.joins.proofs.splitting.split.Lts as lts
-use Rattle.joins.proofs.splitting.any_flag.Reads as any-flag-reads
-use Rattle.joins.proofs.splitting.split_plan.Reads as split-plan-reads
-use Rattle.joins.proofs.splitting.split_row.Reads as split-row-reads
-use Rattle.plan.proofs.judge.Reads as judge-reads
-use Rattle.plan.proofs.next_view.Reads as next-view-reads
-use Rattle.text.proofs.find_row.Reads as find-row-reads
 
 sub-find-row : tie.Need-sub-find-row
 sub-find-row c = search needs

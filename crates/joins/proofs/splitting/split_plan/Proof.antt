@@ -7,10 +7,6 @@ use native.Mathlib.Omega.{arith}
 use borrow.Author.Needs.{needs}
 use Rattle.joins.proofs.splitting.split_plan.Statement.{statement}
 use Rattle.joins.proofs.splitting.split_plan.Tie as tie
-use Rattle.joins.proofs.splitting.split_plan.Reads as reads
-use Rattle.joins.proofs.splitting.split_plan.Lts as lts
-use Rattle.joins.proofs.splitting.flag_at.Reads as flag-at-reads
-use Rattle.joins.proofs.splitting.split_turn.Reads as split-turn-reads
 
 abbrev Inv-loop : tie.InvT-loop
 Inv-loop text cols flags start within₀ used₀ end₀ k₀ within used end k = (k ≤ length cols) × (start .0 ≤ end) × (end ≤ length text) × (used ≤ length text + (length cols - k)) × Counting text cols flags (start .0) end₀ within used end k

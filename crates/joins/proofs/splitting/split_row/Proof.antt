@@ -8,11 +8,6 @@ use native.Mathlib.Omega.{arith}
 use borrow.Author.Needs.{needs}
 use Rattle.joins.proofs.splitting.split_row.Statement.{statement}
 use Rattle.joins.proofs.splitting.split_row.Tie as tie
-use Rattle.joins.proofs.splitting.split_row.Reads as reads
-use Rattle.joins.proofs.splitting.split_row.Lts as lts
-use Rattle.joins.proofs.replace.Reads as replace-reads
-use Rattle.joins.proofs.splitting.flag_at.Reads as flag-at-reads
-use Rattle.joins.proofs.splitting.split_turn.Reads as split-turn-reads
 
 abbrev Inv-loop : tie.InvT-loop
 Inv-loop text₀ used cols flags lf start n₀ end₀ k₀ text n end k = (k ≤ length cols) × (start .0 ≤ end) × (end ≤ n) × (n ≤ length text) × (length text ≡ length text₀) × Putting text₀ used cols flags (start .0) end₀ text n end k

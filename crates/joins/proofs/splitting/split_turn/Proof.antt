@@ -3,8 +3,6 @@ use mathlib.Core.Path.{refl}
 use borrow.Author.Needs.{needs}
 use Rattle.joins.proofs.splitting.split_turn.Statement.{statement}
 use Rattle.joins.proofs.splitting.split_turn.Tie as tie
-use Rattle.joins.proofs.splitting.split_turn.Reads as reads
-use Rattle.joins.proofs.splitting.split_turn.Lts as lts
 
 cast-wish : tie.Need-cast-wish
 cast-wish c = search needs

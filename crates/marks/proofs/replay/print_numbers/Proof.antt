@@ -3,9 +3,6 @@ use lib.ListN.{length}
 use borrow.Author.Needs.{needs}
 use Rattle.marks.proofs.replay.print_numbers.Statement.{statement}
 use Rattle.marks.proofs.replay.print_numbers.Tie as tie
-use Rattle.marks.proofs.replay.print_numbers.Reads as reads
-use Rattle.marks.proofs.replay.print_numbers.Lts as lts
-use Rattle.marks.proofs.replay.print_item.Reads as print-item-reads
 
 abbrev Inv-loop : tie.InvT-loop
 Inv-loop numbers i₀ i = i ≤ length numbers

@@ -9,12 +9,6 @@ use native.Mathlib.Omega.{arith}
 use borrow.Author.Needs.{needs}
 use Rattle.merge.proofs.collapsing.collapse.Statement.{statement}
 use Rattle.merge.proofs.collapsing.collapse.Tie as tie
-use Rattle.merge.proofs.collapsing.collapse.Reads as reads
-use Rattle.merge.proofs.collapsing.collapse.Lts as lts
-use Rattle.merge.proofs.collapsing.merge_two.Reads as merge-two-reads
-use Rattle.sorting.proofs.put_sel.Reads as put-sel-reads
-use Rattle.sorting.proofs.sel_at.Reads as sel-at-reads
-use Rattle.select.proofs.Sel.overlaps.Reads as overlaps-reads
 
 abbrev Inv-loop : tie.InvT-loop
 Inv-loop sorted n out₀ last₀ count₀ i₀ out last count i = (i ≤ n) × (count < i) × (length out ≡ length out₀) × Turning sorted out₀ out last count i

@@ -1,13 +1,6 @@
 use borrow.Author.Needs.{needs}
 use Rattle.merge.proofs.collapsing.merge_two.Statement.{statement}
 use Rattle.merge.proofs.collapsing.merge_two.Tie as tie
-use Rattle.merge.proofs.collapsing.merge_two.Reads as reads
-use Rattle.merge.proofs.collapsing.merge_two.Lts as lts
-use Rattle.select.proofs.Sel.end.Reads as end-reads
-use Rattle.select.proofs.Sel.new.Reads as new-reads
-use Rattle.select.proofs.Sel.start.Reads as start-reads
-use Rattle.text.proofs.Position.max.Reads as max-reads
-use Rattle.text.proofs.Position.min.Reads as min-reads
 
 start-requires : tie.Need-start-requires
 start-requires c κs = search needs

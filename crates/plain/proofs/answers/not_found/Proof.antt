@@ -1,10 +1,6 @@
-use native.Mathlib.Omega.{arith}
 use borrow.Author.Needs.{needs}
 use Rattle.plain.proofs.answers.not_found.Statement.{statement}
 use Rattle.plain.proofs.answers.not_found.Tie as tie
-use Rattle.plain.proofs.answers.not_found.Reads as reads
-use Rattle.plain.proofs.answers.not_found.Lts as lts
-use Rattle.plain.proofs.edits.origin.Reads as origin-reads
 
 origin-requires : tie.Need-origin-requires
 origin-requires c κs = search needs

@@ -1,10 +1,6 @@
-use native.Mathlib.Omega.{arith}
 use borrow.Author.Needs.{needs}
 use Rattle.plain.proofs.edits.at_place.Statement.{statement}
 use Rattle.plain.proofs.edits.at_place.Tie as tie
-use Rattle.plain.proofs.edits.at_place.Reads as reads
-use Rattle.plain.proofs.edits.at_place.Lts as lts
-use Rattle.plain.proofs.edits.origin.Reads as origin-reads
 
 origin-requires : tie.Need-origin-requires
 origin-requires c κs = search needs

@@ -1,10 +1,6 @@
-use native.Mathlib.Omega.{arith}
 use borrow.Author.Needs.{needs}
 use Rattle.plain.proofs.edits.at_row.Statement.{statement}
 use Rattle.plain.proofs.edits.at_row.Tie as tie
-use Rattle.plain.proofs.edits.at_row.Reads as reads
-use Rattle.plain.proofs.edits.at_row.Lts as lts
-use Rattle.plain.proofs.edits.origin.Reads as origin-reads
 
 origin-requires : tie.Need-origin-requires
 origin-requires c κs = search needs

@@ -1,8 +1,6 @@
 use mathlib.Core.Path.{refl}
 use Rattle.plain.specs.Meanings.{item, edits}
 use Rattle.plain.proofs.Items.{none-of-eleven}
-use native.Mathlib.Omega.{arith}
-use borrow.Author.Needs.{needs}
 use Rattle.plain.proofs.edits.meant_edit.Statement.{statement}
 use Rattle.plain.proofs.edits.meant_edit.Tie as tie
 

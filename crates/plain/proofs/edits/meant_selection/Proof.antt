@@ -1,8 +1,6 @@
 use mathlib.Core.Path.{refl}
 use Rattle.plain.specs.Meanings.{item, selections}
 use Rattle.plain.proofs.Items.{none-of-three}
-use native.Mathlib.Omega.{arith}
-use borrow.Author.Needs.{needs}
 use Rattle.plain.proofs.edits.meant_selection.Statement.{statement}
 use Rattle.plain.proofs.edits.meant_selection.Tie as tie
 

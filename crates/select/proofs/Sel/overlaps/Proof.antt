@@ -1,11 +1,6 @@
 use borrow.Author.Needs.{needs}
 use Rattle.select.proofs.Sel.overlaps.Statement.{statement}
 use Rattle.select.proofs.Sel.overlaps.Tie as tie
-use Rattle.select.proofs.Sel.overlaps.Reads as reads
-use Rattle.select.proofs.Sel.overlaps.Lts as lts
-use Rattle.select.proofs.Sel.end.Reads as end-reads
-use Rattle.select.proofs.Sel.start.Reads as start-reads
-use Rattle.text.proofs.Position.le.Reads as le-reads
 
 start-requires : tie.Need-start-requires
 start-requires c κs = search needs

@@ -1,8 +1,6 @@
 use borrow.Author.Needs.{needs}
 use Rattle.select.proofs.Selection.anchor.Statement.{statement}
 use Rattle.select.proofs.Selection.anchor.Tie as tie
-use Rattle.select.proofs.Selection.anchor.Reads as reads
-use Rattle.select.proofs.Selection.anchor.Lts as lts
 
 enum-known-self : tie.Need-enum-known-self
 enum-known-self c = search needs

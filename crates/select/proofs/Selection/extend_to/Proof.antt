@@ -1,8 +1,6 @@
 use borrow.Author.Needs.{needs}
 use Rattle.select.proofs.Selection.extend_to.Statement.{statement}
 use Rattle.select.proofs.Selection.extend_to.Tie as tie
-use Rattle.select.proofs.Selection.extend_to.Reads as reads
-use Rattle.select.proofs.Selection.extend_to.Lts as lts
 
 enum-known-self : tie.Need-enum-known-self
 enum-known-self c = search needs

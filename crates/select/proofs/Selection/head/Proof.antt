@@ -1,8 +1,6 @@
 use borrow.Author.Needs.{needs}
 use Rattle.select.proofs.Selection.head.Statement.{statement}
 use Rattle.select.proofs.Selection.head.Tie as tie
-use Rattle.select.proofs.Selection.head.Reads as reads
-use Rattle.select.proofs.Selection.head.Lts as lts
 
 enum-known-self : tie.Need-enum-known-self
 enum-known-self c = search needs

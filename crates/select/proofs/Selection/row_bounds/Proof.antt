@@ -1,12 +1,6 @@
 use borrow.Author.Needs.{needs}
 use Rattle.select.proofs.Selection.row_bounds.Statement.{statement}
 use Rattle.select.proofs.Selection.row_bounds.Tie as tie
-use Rattle.select.proofs.Selection.row_bounds.Reads as reads
-use Rattle.select.proofs.Selection.row_bounds.Lts as lts
-use Rattle.text.proofs.Position.max.Reads as Position-max-reads
-use Rattle.text.proofs.Position.min.Reads as Position-min-reads
-use Rattle.text.proofs.Row.max.Reads as Row-max-reads
-use Rattle.text.proofs.Row.min.Reads as Row-min-reads
 
 enum-known-self : tie.Need-enum-known-self
 enum-known-self c = search needs

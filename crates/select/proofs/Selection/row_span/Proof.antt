@@ -1,17 +1,6 @@
 use borrow.Author.Needs.{needs}
 use Rattle.select.proofs.Selection.row_span.Statement.{statement}
 use Rattle.select.proofs.Selection.row_span.Tie as tie
-use Rattle.select.proofs.Selection.row_span.Reads as reads
-use Rattle.select.proofs.Selection.row_span.Lts as lts
-use Rattle.select.proofs.shapes.block_span.Reads as block-span-reads
-use Rattle.select.proofs.shapes.char_span.Reads as char-span-reads
-use Rattle.select.proofs.shapes.line_span.Reads as line-span-reads
-use Rattle.text.proofs.Col.max.Reads as Col-max-reads
-use Rattle.text.proofs.Col.min.Reads as Col-min-reads
-use Rattle.text.proofs.Position.max.Reads as Position-max-reads
-use Rattle.text.proofs.Position.min.Reads as Position-min-reads
-use Rattle.text.proofs.Row.max.Reads as Row-max-reads
-use Rattle.text.proofs.Row.min.Reads as Row-min-reads
 
 enum-known-self : tie.Need-enum-known-self
 enum-known-self c = search needs

@@ -1,8 +1,6 @@
 use Rattle.select.specs.Selections.{blockSpan}
 use Rattle.select.proofs.shapes.block_span.Statement.{statement}
 use Rattle.select.proofs.shapes.block_span.Tie as tie
-use Rattle.select.proofs.shapes.block_span.Reads as reads
-use Rattle.select.proofs.shapes.block_span.Lts as lts
 
 returns : tie.Need-returns
 unfolding blockSpan

@@ -3,9 +3,6 @@ use Rattle.select.specs.Selections.{charSpan}
 use borrow.Author.Needs.{needs}
 use Rattle.select.proofs.shapes.char_span.Statement.{statement}
 use Rattle.select.proofs.shapes.char_span.Tie as tie
-use Rattle.select.proofs.shapes.char_span.Reads as reads
-use Rattle.select.proofs.shapes.char_span.Lts as lts
-use Rattle.select.proofs.shapes.first_col.Reads as first-col-reads
 
 returns : tie.Need-returns
 unfolding charSpan

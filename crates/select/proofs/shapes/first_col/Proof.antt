@@ -1,8 +1,6 @@
 use borrow.Author.Tests.{eq-eqb, ne-eqb}
 use Rattle.select.proofs.shapes.first_col.Statement.{statement}
 use Rattle.select.proofs.shapes.first_col.Tie as tie
-use Rattle.select.proofs.shapes.first_col.Reads as reads
-use Rattle.select.proofs.shapes.first_col.Lts as lts
 
 returns : tie.Need-returns
 returns c = rw (eq-eqb _ _ (c .before .if1 .taken))

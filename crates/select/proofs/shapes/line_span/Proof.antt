@@ -1,8 +1,6 @@
 use Rattle.select.specs.Selections.{lineSpan}
 use Rattle.select.proofs.shapes.line_span.Statement.{statement}
 use Rattle.select.proofs.shapes.line_span.Tie as tie
-use Rattle.select.proofs.shapes.line_span.Reads as reads
-use Rattle.select.proofs.shapes.line_span.Lts as lts
 
 returns : tie.Need-returns
 unfolding lineSpan

@@ -2,9 +2,6 @@ use Rattle.shift.specs.Call.{orderedRange}
 use borrow.Author.Needs.{needs}
 use Rattle.shift.proofs.judging.range_ordered.Statement.{statement}
 use Rattle.shift.proofs.judging.range_ordered.Tie as tie
-use Rattle.shift.proofs.judging.range_ordered.Reads as reads
-use Rattle.shift.proofs.judging.range_ordered.Lts as lts
-use Rattle.text.proofs.Position.le.Reads as le-reads
 
 enum-told : tie.Need-enum-told
 enum-told c = search needs

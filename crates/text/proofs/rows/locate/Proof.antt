@@ -5,10 +5,6 @@ use native.Mathlib.Omega.{arith}
 use borrow.Author.Needs.{needs}
 use Rattle.text.proofs.rows.locate.Statement.{statement}
 use Rattle.text.proofs.rows.locate.Tie as tie
-use Rattle.text.proofs.rows.locate.Reads as reads
-use Rattle.text.proofs.rows.locate.Lts as lts
-use Rattle.text.proofs.Col.min.Reads as min-reads
-use Rattle.text.proofs.rows.find_row.Reads as find-row-reads
 
 find-row-requires : tie.Need-find-row-requires
 find-row-requires c κs = search needs

@@ -3,9 +3,6 @@ use Rattle.text.specs.declared.Place.{Place}
 use borrow.Author.Needs.{needs}
 use Rattle.text.proofs.rows.pos_to_char_idx.Statement.{statement}
 use Rattle.text.proofs.rows.pos_to_char_idx.Tie as tie
-use Rattle.text.proofs.rows.pos_to_char_idx.Reads as reads
-use Rattle.text.proofs.rows.pos_to_char_idx.Lts as lts
-use Rattle.text.proofs.rows.locate.Reads as locate-reads
 
 locate-requires : tie.Need-locate-requires
 locate-requires c κs = search needs
