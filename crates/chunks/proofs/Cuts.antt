@@ -4,7 +4,6 @@ use mathlib.Core.List.{List, [], _∷_, _++_, append-assoc, flatten}
 use Prim.Native.Nat.{ℕ, suc, _+_, _-_, _≤_, _<_, min}
 use native.Mathlib.Nat.{add-zero, zero-add, add-assoc, min-eq-left, min-eq-right}
 use native.Mathlib.Decide.{decLe}
-use native.Mathlib.Numerals.{add-one}
 use native.Mathlib.Omega.{arith}
 use lib.ListN.{length, take, drop, getD, length-append, length-take, length-drop, length-map, drop-of-length-le}
 use lib.Seq.{paste, slice, take-all, take-append-le, drop-drop, drop-append-le, drop-append-add, length-take-le}
@@ -22,6 +21,7 @@ use Rattle.edit.specs.Refusals.{isSpace, spaces}
 use Rattle.edit.proofs.Blocks.{chunksOf-length, chunks-le}
 use Rattle.edit.proofs.Sizes.{loss, chunksDeleted-length}
 use Rattle.blocks.specs.Blocks.{lastEnd}
+use Rattle.blocks.proofs.Local.{end-next}
 use Rattle.blocks.proofs.Starts.{plain-none, scan-row, start-turned, row-there, Begins, begins-first, begins-next, end-within}
 use Rattle.chunks.specs.declared.Cut.{Cut}
 use Rattle.chunks.specs.Chunks.{cutAt, sizesOf}
@@ -241,7 +241,7 @@ module _ {t : List ℕ} {r c : ℕ} {ws ds : List ℕ} {gone payload start end k
   pub sizing-next : Sizing t r c ws ds (gone + (cut .to .0 - cut .from .0)) (payload + (cut .to .0 - cut .chunk .0)) (cut .end .0 + 1) (cut .end .0) (k + 1)
   sizing-next =
       let q : cut .end .0 ≡ rowEnd isLF t (r + k) = ap (λ (z : Cut). z .end .0) cut-here in
-      record { within = omega arith; begins = begins-next t r k (cut .end .0) q (length ws) there; ends = rw add-one q; less = sizing-less; more = sizing-more }
+      record { within = omega arith; begins = begins-next t r k (cut .end .0) q (length ws) there; ends = end-next t r k (cut .end .0) q; less = sizing-less; more = sizing-more }
 
 module _ {t : List ℕ} {r c : ℕ} {ws ds : List ℕ} {gone payload start end k : ℕ} (s : Sizing t r c ws ds gone payload start end k) where
   pub sizing-bounds : (gone ≤ length t) × (payload ≤ length t)

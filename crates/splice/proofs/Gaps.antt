@@ -21,9 +21,9 @@ module _ (b y t : List ℕ) (used at : ℕ) (p : List ℕ) where
   Filled = t ≡ paste (take at b ++ (y ++ drop (length b - at) (drop at b))) at p (length p)
 
 module _ (b y t : List ℕ) (used at : ℕ) (p : List ℕ) (h : at ≤ used) (room : used + length p ≤ length b) where
-  opened : MovedUp b y t used at p → Filled b y t used at p
+  put-in : MovedUp b y t used at p → Filled b y t used at p
       → t ≡ take at b ++ (p ++ (take (used - at) (drop at b) ++ drop (used + length p) b))
-  opened ey et =
+  put-in ey et =
       let d : List ℕ = drop at b in
       let w : ℕ = used - at in
       let n : ℕ = length p in
@@ -43,7 +43,7 @@ module _ (b y t : List ℕ) (used at : ℕ) (p : List ℕ) (h : at ≤ used) (ro
       rw (drop-take at used b, take-take at used b h, l, z, m) (simp append-assoc)
 
   pub gap-opened : MovedUp b y t used at p → Filled b y t used at p → t ≡ gapOpened b used at p
-  gap-opened ey et = opened ey et ∙ open-renewed
+  gap-opened ey et = put-in ey et ∙ open-renewed
 
 -- the buffer f after the spaces went in, and t after the payload
 pub gap-padded : (b y f t : List ℕ) (used at pad : ℕ) (p : List ℕ) → at ≤ used → used + (pad + length p) ≤ length b
