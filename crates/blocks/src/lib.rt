@@ -42,7 +42,7 @@ pub fn rows_from(text: &[u32], row: Row, most: usize) -> usize
     requires { ⌜ length (now text) ≤ textLimit ⌝ }
     ensures { λ r. ⌜ r ≡ min most (rowCount isLF (now (text .entry)) - row .0) ⌝ }
 {
-    let count = text::row_count(text);
+    let count = rows::row_count(text);
     if count <= row.0 {
         return 0;
     }
@@ -57,7 +57,7 @@ fn put_splice(text: &[u32], begin: CharOffset, pos: Position) -> Put
 {
     let start = begin.0;
     let used = text.len();
-    let len = text::line_char_count(&text[start..used], Row(0));
+    let len = rows::line_char_count(&text[start..used], Row(0));
     let col = pos.col;
     let within = col.min(len);
     Put {
@@ -76,7 +76,7 @@ fn put_size(text: &[u32], at: Position, lens: &[u32]) -> Extent
     let col = at.col;
     let mut size = text.len();
     let mut end = text.len();
-    let first = text::line_to_char(text, at.row).0;
+    let first = rows::line_to_char(text, at.row).0;
     let mut start = first;
     let mut k = 0;
     while k < lens.len() {
@@ -196,7 +196,7 @@ pub fn insert_block(
     put_chunks(text, used, extent, at, payload, &lens[0..rows], pads);
     splice::fill(pads, CharOffset(rows), count - rows, 0);
     splice::copy_in(widths, CharOffset(0), lens);
-    let cursor = text::clamp(&text[0..size], at);
+    let cursor = rows::clamp(&text[0..size], at);
     Answer::Done(Applied {
         view: plan::next_view(view, size, cursor),
         inverse: Edit::DeleteBlockChunks { at },

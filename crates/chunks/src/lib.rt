@@ -60,7 +60,7 @@ fn cut_splice(text: &[u32], begin: CharOffset, pos: Position, width: u32, pad: u
 {
     let start = begin.0;
     let used = text.len();
-    let len = text::line_char_count(&text[start..used], Row(0));
+    let len = rows::line_char_count(&text[start..used], Row(0));
     let col = pos.col;
     let left = Col(col.0 - Col(pad).min(col).0).min(len);
     let chunk = col.min(len);
@@ -81,7 +81,7 @@ fn cut_size(text: &[u32], at: Position, widths: &[u32], pads: &[u32]) -> Sizes
     let col = at.col;
     let mut gone = 0;
     let mut payload = 0;
-    let first = text::line_to_char(text, at.row);
+    let first = rows::line_to_char(text, at.row);
     let mut start = first.0;
     let mut end = text.len();
     let mut k = 0;
@@ -205,7 +205,7 @@ pub fn delete_chunks(
     }
     cut_block(text, used, sizes, at, &widths[0..rows], pads, out, lens);
     splice::fill(lens, CharOffset(rows), count - rows, 0);
-    let cursor = text::clamp(&text[0..size], at);
+    let cursor = rows::clamp(&text[0..size], at);
     Answer::Done(Applied {
         view: plan::next_view(view, size, cursor),
         inverse: Edit::InsertBlock { at },

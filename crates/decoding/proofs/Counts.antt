@@ -9,7 +9,7 @@ use Rattle.promise.specs.Paper.{Paper, done, refused}
 use Rattle.utf8.specs.Rfc3629.{UTF8-char}
 use Rattle.utf8.specs.Reading.{Reading, scalars, badAt, prepend, readFrom, reading}
 use Rattle.utf8.specs.Calls.{stepBy, counted}
-use Rattle.decoding.proofs.Steps.{step-done, step-refused, read-end}
+use Rattle.sequences.proofs.Steps.{step-done, step-refused, read-end}
 
 abbrev pub counting : ℕ → Reading → Paper ℕ
 counting k (scalars cs) = done (k + length cs)

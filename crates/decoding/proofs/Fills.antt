@@ -17,7 +17,7 @@ use Rattle.utf8.proofs.Taken.{taken-le}
 use Rattle.utf8.proofs.Lead.{lead-two, lead-three, lead-four}
 use Rattle.utf8.proofs.Readings.{read-lost, prepended}
 use Rattle.utf8.proofs.Stores.{stored-more, stored-end}
-use Rattle.decoding.proofs.Steps.{found, step-done, read-end}
+use Rattle.sequences.proofs.Steps.{found, step-done, read-end}
 
 -- a turn that stored v and went on to j
 abbrev pub Filled : List ℕ → List ℕ → List ℕ → List ℕ → ℕ → ℕ → ℕ → ℕ → Type 0

@@ -1,5 +1,3 @@
-pub mod Tests
-pub mod Steps
 pub mod Counts
 pub mod Fills
 pub mod Runs

@@ -13,7 +13,7 @@ use lib.ListN.{length, take, drop, getD, set, length-drop}
 use lib.Seq.{getD-drop, paste, paste-zero, paste-suc}
 use Rattle.promise.proofs.Bools.{both, neither}
 use Rattle.utf8.specs.Reading.{scalars, readFrom}
-use Rattle.decoding.proofs.Steps.{ascii, step-done}
+use Rattle.sequences.proofs.Steps.{ascii, step-done}
 use Rattle.decoding.proofs.Counts.{counting, count-one}
 use Rattle.decoding.proofs.Fills.{fill-again}
 

@@ -13,7 +13,7 @@ use Rattle.edit.specs.Refusals.{sum, smallRange, smallOk, fewRows, fewOk
 use Rattle.edit.specs.Call.{firstOf, resultOf, leaves, applied, rangeUndoable, isUndoable, undoable}
 use Rattle.edit.specs.Runs.{Run, stop, step, edits, stages}
 use Rattle.edit.specs.Demand3.{State, text, Beside, viewAt, lentAt, Undoable}
-use Rattle.edit.specs.Examples.{opened, FurtherExamples, FirstRefusals, sampleEdits, sampleTexts, SampleRun}
+use Rattle.edit.specs.Examples.{opened, FurtherExamples, FirstRefusals, RuledOut, sampleEdits, sampleTexts, SampleRun}
 use Rattle.edit.proofs.Accepted.{holds, doing, Fine}
 use Rattle.edit.proofs.Calls.{Held, next, step-accepted, next-held}
 
@@ -21,6 +21,7 @@ pub further-examples : FurtherExamples
 unfolding onto lines unlines rowCount lastRow rowLen rowStart clamp offset endOf inText admissible all textOk renewed scalar flatten inserted charsDeleted lineFrom lineTo linesDeleted replaced gap joinRow joinCols joinFlags put putAll padsOf pieces cutAll chunksOf anyFlag joined unspace splitFirst splitRow split blockInserted chunksDeleted rangeDeleted editedBy sum smallRange smallOk fewRows fewOk payloadOk withinFirst withinAll withinOk roomOk recordOk wide firstOf resultOf leaves applied rangeUndoable isUndoable undoable
 further-examples = record {
   insert = refl;
+  cut-past = refl;
   join-below = refl;
   line-below = refl;
   split-no-space = refl;
@@ -38,6 +39,10 @@ further-examples = record {
 pub first-refusals : FirstRefusals
 unfolding onto lines unlines rowCount lastRow rowLen rowStart clamp offset endOf inText admissible all textOk renewed scalar flatten inserted charsDeleted lineFrom lineTo linesDeleted replaced gap joinRow joinCols joinFlags put putAll padsOf pieces cutAll chunksOf anyFlag joined unspace splitFirst splitRow split blockInserted chunksDeleted rangeDeleted editedBy sum smallRange smallOk fewRows fewOk payloadOk withinFirst withinAll withinOk roomOk recordOk wide firstOf resultOf leaves applied rangeUndoable isUndoable undoable
 first-refusals = record { bad-text = refl; too-big = refl; too-many = refl; bad-payload = refl; beyond-row = refl; no-room = refl; no-record = refl }
+
+pub ruled-out : RuledOut
+unfolding onto lines unlines rowCount lastRow rowLen rowStart clamp offset endOf inText admissible all textOk renewed scalar flatten inserted charsDeleted lineFrom lineTo linesDeleted replaced gap joinRow joinCols joinFlags put putAll padsOf pieces cutAll chunksOf anyFlag joined unspace splitFirst splitRow split blockInserted chunksDeleted rangeDeleted editedBy sum smallRange smallOk fewRows fewOk payloadOk withinFirst withinAll withinOk roomOk recordOk wide firstOf resultOf leaves applied rangeUndoable isUndoable undoable
+ruled-out = record { insert-in = refl; cut = refl; cut-crossed = refl; cut-short = refl; lines-up = refl; join-empty = refl; split-above = refl; split-space = refl; block-absent = refl; block-past = refl; block-below = refl; block-rows = refl; block-above = refl; chunk-absent = refl; chunk-above = refl; block-cut = refl; big-flag = refl; big-end = refl; many-flags = refl; many-joins = refl; rows-down = refl; rows-up = refl; two-characters = refl; lengths = refl; break-first = refl; replace-bad = refl; no-second = refl }
 
 -- ---- the sample: every test of each edit is computed at the state that the edits before it leave
 

@@ -1,4 +1,5 @@
--- Sentences of document 01 as examples, equations of the whole call; refusals in order; and a run of every kind that demand 3 names.
+-- Sentences of document 01 as examples, equations of the whole call; refusals in order; what rules out wrong programs; and a run of every
+-- kind that demand 3 names.
 -- Its marked examples are in crate `marked`. In a text "/" is LF, 10; a is 97, X is 88, a space 32.
 use mathlib.Core.Path.{_≡_}
 use mathlib.Core.Bool.{true, false}
@@ -12,6 +13,7 @@ use Rattle.edit.specs.declared.MotionKind.the-variants.{Char, Line as Li
 use Rattle.edit.specs.declared.Edit.{Edit}
 use Rattle.edit.specs.declared.Edit.the-variants.{InsertChar, InsertStr, DeleteRange, JoinLines, SplitLines, Replace, InsertBlock, DeleteBlockChunks}
 use Rattle.edit.specs.Edits.{Whole, whole, edited, rowAt}
+use Rattle.edit.specs.Refusals.{fewOk}
 use Rattle.edit.specs.Call.{outcome, nextView}
 use Rattle.edit.specs.Runs.{Run, edits, stages}
 use Rattle.edit.specs.Demand3.{State, text, Beside, called, Undoable}
@@ -67,6 +69,8 @@ pub record FurtherExamples : Type 0 where
   -- the edit of example 3: "ab/cd", "X/" at (0,1): "aX/b/cd", cursor (1,0)
   pub insert :
       Gives (97 ∷ 98 ∷ 10 ∷ 99 ∷ 100 ∷ []) (plain (InsertStr (at 0 1)) (88 ∷ 10 ∷ [])) (97 ∷ 88 ∷ 10 ∷ 98 ∷ 10 ∷ 99 ∷ 100 ∷ []) (plain (DeleteRange (at 0 1) (at 1 0) Char) []) (at 1 0)
+  -- "Inverse: InsertStr of the cut text at the *unclamped* ordered start", which is marked example 4: "ab/cdef", Char (0,99)-(1,2)
+  pub cut-past : Gives abcdef (plain (DeleteRange (at 0 99) (at 1 2) Char) []) (97 ∷ 98 ∷ 101 ∷ 102 ∷ []) (plain (InsertStr (at 0 99)) (10 ∷ 99 ∷ 100 ∷ [])) (at 0 4)
   -- "Cursor: (row,0)", "Cursor: lo .. column 0", below the first row
   pub join-below : Gives threeRows (plain (JoinLines (rowAt 1) 1 false) []) (97 ∷ 10 ∷ 98 ∷ 99 ∷ []) (whole (SplitLines (rowAt 1)) [] (1 ∷ []) (0 ∷ [])) (at 1 0)
   pub line-below : Gives threeRows (plain (DeleteRange (at 1 0) (at 1 0) Lines) []) (97 ∷ 10 ∷ 99 ∷ []) (plain (InsertStr (at 1 0)) (98 ∷ 10 ∷ [])) (at 1 0)
@@ -109,6 +113,69 @@ pub record FirstRefusals : Type 0 where
   pub no-room : Refuses sixRows (whole (InsertBlock (at 0 0)) (replicate 6 97) (2 ∷ 1 ∷ 1 ∷ 1 ∷ 1 ∷ []) []) 8
   -- five joins, and four places for their columns
   pub no-record : Refuses sixRows (plain (JoinLines (rowAt 0) 9 false) []) 9
+
+-- ---- wrong programs ruled out
+
+-- Each line is what the promise asks for at one edit, and above it stands the program that leaves something else there.
+pub record RuledOut : Type 0 where
+  -- the end of an insertion counted from its row
+  pub insert-in : Gives abc (plain (InsertStr (at 0 2)) (88 ∷ [])) (97 ∷ 98 ∷ 88 ∷ 99 ∷ []) (plain (DeleteRange (at 0 2) (at 0 3) Char) []) (at 0 3)
+  -- the cursor of a cut at its end; one end taken for both
+  pub cut : Gives abc (plain (DeleteRange (at 0 0) (at 0 2) Char) []) (99 ∷ []) (plain (InsertStr (at 0 0)) (97 ∷ 98 ∷ [])) (at 0 0)
+  -- of two offsets that clamping put out of order, the second taken for the larger
+  pub cut-crossed : Gives abc (plain (DeleteRange (at 0 2) (at 9 0) Char) []) abc (plain (InsertStr (at 0 2)) []) (at 0 2)
+  -- the record of a cut judged to be as long as the text
+  pub cut-short :
+      Gives sixRows (plain (DeleteRange (at 0 0) (at 0 1) Char) []) (10 ∷ 98 ∷ 10 ∷ 99 ∷ 10 ∷ 100 ∷ 10 ∷ 101 ∷ 10 ∷ 102 ∷ []) (plain (InsertStr (at 0 0)) (97 ∷ [])) (at 0 0)
+  -- one end of a Line delete taken for both; the larger of two rows always the second
+  pub lines-up : Gives threeRows (plain (DeleteRange (at 1 0) (at 0 0) Lines) []) (99 ∷ []) (plain (InsertStr (at 0 0)) (97 ∷ 10 ∷ 98 ∷ 10 ∷ [])) (at 0 0)
+  -- a space put behind an empty row
+  pub join-empty : Gives (10 ∷ 98 ∷ []) (plain (JoinLines (rowAt 0) 1 true) []) (98 ∷ []) (whole (SplitLines (rowAt 0)) [] (0 ∷ []) (0 ∷ [])) (at 0 0)
+  -- the rows below a split written over
+  pub split-above : Gives abcd (whole (SplitLines (rowAt 0)) [] (1 ∷ []) []) (97 ∷ 10 ∷ 98 ∷ 99 ∷ 10 ∷ 100 ∷ []) (plain (JoinLines (rowAt 0) 1 false) []) (at 0 0)
+  -- a space at a column with a flag kept
+  pub split-space : Gives (97 ∷ 32 ∷ 98 ∷ []) (whole (SplitLines (rowAt 0)) [] (1 ∷ []) (1 ∷ [])) (97 ∷ 10 ∷ 98 ∷ []) (plain (JoinLines (rowAt 0) 1 true) []) (at 0 0)
+  -- rows counted that the text does not have; their pads left as they were
+  pub block-absent :
+      Gives (97 ∷ []) (whole (InsertBlock (at 0 0)) (88 ∷ 89 ∷ []) (1 ∷ 1 ∷ []) []) (88 ∷ 97 ∷ []) (whole (DeleteBlockChunks (at 0 0)) [] (1 ∷ 1 ∷ []) (0 ∷ 0 ∷ [])) (at 0 0)
+  -- the cursor at the place as given
+  pub block-past : Gives (97 ∷ []) (whole (InsertBlock (at 5 0)) (88 ∷ []) (1 ∷ []) []) (97 ∷ []) (whole (DeleteBlockChunks (at 5 0)) [] (1 ∷ []) (0 ∷ [])) (at 0 0)
+  -- the chunks put into the first rows of the text
+  pub block-below :
+      Gives abcd (whole (InsertBlock (at 1 0)) (88 ∷ []) (1 ∷ []) []) (97 ∷ 98 ∷ 99 ∷ 10 ∷ 88 ∷ 100 ∷ []) (whole (DeleteBlockChunks (at 1 0)) [] (1 ∷ []) (0 ∷ [])) (at 1 0)
+  -- the second row taken to start at the LF before it
+  pub block-rows :
+      Gives abcd (whole (InsertBlock (at 0 0)) (88 ∷ 89 ∷ []) (1 ∷ 1 ∷ []) []) (88 ∷ 97 ∷ 98 ∷ 99 ∷ 10 ∷ 89 ∷ 100 ∷ []) (whole (DeleteBlockChunks (at 0 0)) [] (1 ∷ 1 ∷ []) (0 ∷ 0 ∷ [])) (at 0 0)
+  -- the text behind the last row that gets a chunk not moved, or moved by all the room that there is
+  pub block-above :
+      Gives threeRows (whole (InsertBlock (at 0 1)) (88 ∷ []) (1 ∷ []) []) (97 ∷ 88 ∷ 10 ∷ 98 ∷ 10 ∷ 99 ∷ []) (whole (DeleteBlockChunks (at 0 1)) [] (1 ∷ []) (0 ∷ [])) (at 0 1)
+  -- the chunk lengths of absent rows left as they were
+  pub chunk-absent :
+      Gives abc (whole (DeleteBlockChunks (at 0 0)) [] (1 ∷ 1 ∷ []) []) (98 ∷ 99 ∷ []) (whole (InsertBlock (at 0 0)) (97 ∷ []) (1 ∷ 0 ∷ []) []) (at 0 0)
+  -- the text behind the last row that is cut gone too
+  pub chunk-above :
+      Gives abcd (whole (DeleteBlockChunks (at 0 0)) [] (1 ∷ []) []) (98 ∷ 99 ∷ 10 ∷ 100 ∷ []) (whole (InsertBlock (at 0 0)) (97 ∷ []) (1 ∷ []) []) (at 0 0)
+  -- the height of a Block delete taken for its breadth; its second row taken to start at the LF before it, or behind the first chunk
+  pub block-cut :
+      Gives abcdef (plain (DeleteRange (at 0 0) (at 1 0) Block) []) (98 ∷ 10 ∷ 100 ∷ 101 ∷ 102 ∷ []) (whole (InsertBlock (at 0 0)) (97 ∷ 99 ∷ []) (1 ∷ 1 ∷ []) []) (at 0 0)
+  -- a number of the second list, or of a Block delete's second end, not judged
+  pub big-flag : Refuses abc (whole (SplitLines (rowAt 0)) [] (1 ∷ []) (1_000_001 ∷ [])) 2
+  pub big-end : Refuses abc (plain (DeleteRange (at 0 0) (at 0 1_000_001) Block) []) 2
+  -- the second list not counted; joins counted from the last row
+  pub many-flags : Refuses abc (whole (SplitLines (rowAt 0)) [] [] (replicate 257 0)) 3
+  pub many-joins : fewOk (replicate 257 10) (JoinLines (rowAt 0) 257 false) [] [] [] ≡ false
+  -- a block of 257 rows counted one row short, and one of 256, named upwards, one row too long: that one lacks but a record
+  pub rows-down : Refuses [] (plain (DeleteRange (at 0 0) (at 256 0) Block) []) 3
+  pub rows-up : Refuses [] (plain (DeleteRange (at 255 0) (at 0 0) Block) []) 9
+  -- InsertChar of two characters; chunk lengths that sum to their own number; an LF that is not the last character; a Replace by any values
+  pub two-characters : Refuses [] (plain (InsertChar (at 0 0)) (97 ∷ 98 ∷ [])) 4
+  pub lengths : Refuses [] (whole (InsertBlock (at 0 0)) (97 ∷ 98 ∷ []) (1 ∷ []) []) 4
+  pub break-first : Refuses [] (whole (InsertBlock (at 0 0)) (10 ∷ 97 ∷ []) (2 ∷ []) []) 4
+  pub replace-bad : Refuses [] (plain (Replace (at 0 0) (at 0 0)) (13 ∷ [])) 4
+  -- the record's second list not judged
+  pub no-second :
+      called (opened threeRows) (plain (JoinLines (rowAt 0) 1 false) []) (record { cursor = at 0 0; changes = 0; payload = []; first = replicate 4 9; second = [] })
+      ≡ outcome (refused 9 0) (opened threeRows .buffer) [] (replicate 4 9) []
 
 -- ---- a run of every kind that demand 3 names
 

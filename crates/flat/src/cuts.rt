@@ -1,14 +1,14 @@
 // What a delete cuts, found in the text as it stands.
 use crate::Cut;
 use crate::LineCut;
+use rows::find_row;
+use rows::last_row;
+use rows::line_to_char;
+use rows::locate;
 use text::CharOffset;
 use text::Col;
 use text::Position;
 use text::Row;
-use text::find_row;
-use text::last_row;
-use text::line_to_char;
-use text::locate;
 ghost use mathlib.Core.Path.{_≡_};
 ghost use Prim.Native.Nat.{_≤_, _<_};
 ghost use lib.ListN.{length};

@@ -15,3 +15,4 @@ pub mod Theorems
 pub mod ByteCounts
 pub mod Compact
 pub mod Inverses
+pub mod Examples

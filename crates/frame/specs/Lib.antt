@@ -1,7 +1,9 @@
 pub mod Numbers
 pub mod Format
+pub mod Sizes
 pub mod Forms
 pub mod Reads
 pub mod Writes
 pub mod Theorems
 pub mod Inverses
+pub mod Examples

@@ -1,1 +1,2 @@
 pub mod AmongEdits
+pub mod Examples

@@ -1,18 +1,12 @@
 // Refusals 1 to 4: what is judged of an edit before anything is done.
-mod lists;
-mod numbers;
-mod payload;
-
+use bad_payload::payload_good;
 use edit::Edit;
 use edit::Refusal;
 use edit::Verdict;
 use edit::View;
-pub use lists::lists_few;
-pub use numbers::numbers_small;
-pub use numbers::small_position;
-pub use payload::payload_good;
-pub use payload::sums_to;
 use text::is_text;
+use too_big::numbers_small;
+use too_many::lists_few;
 ghost use mathlib.Core.List.{List};
 ghost use mathlib.Core.Path.{_≡_};
 ghost use Prim.Native.Nat.{ℕ, _≤_};
@@ -21,12 +15,6 @@ ghost use Rattle.text.specs.Text.{textLimit};
 ghost use Rattle.edit.specs.Refusals.{smallOk, fewOk, payloadOk};
 ghost use Rattle.edit.specs.Call.{paperVerdict, verdictOf, givenTests, lent};
 ghost use Rattle.given.specs.Tests.{laterTests};
-
-// The greatest number that an edit has.
-pub const NUMBER_LIMIT: u32 = 1_000_000;
-
-// The most items that a list has, rows that a block delete spans, and joins that a join makes.
-pub const LIST_LIMIT: usize = 256;
 
 pub fn first_refusal(small: bool, few: bool, good: bool) -> Verdict
     ensures { λ r. ⌜ paperVerdict r ≡ verdictOf (laterTests small few good) ⌝ }

@@ -6,3 +6,4 @@ pub mod Told
 pub mod Theorems
 pub mod Breaks
 pub mod Zeros
+pub mod Examples

@@ -1,3 +1,4 @@
 pub mod Digits
 pub mod Calls
 pub mod Theorems
+pub mod Examples

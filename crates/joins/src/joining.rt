@@ -33,7 +33,7 @@ pub fn join_turn(text: &[u32], at: CharOffset, left: usize, spaced: bool) -> Joi
     ensures { λ r. ⌜ r ≡ joinTurn (now (text .entry)) (at .0) left spaced ⌝ }
 {
     let next = at.0 + 1;
-    let len = text::line_char_count(&text[next..], Row(0)).0 as usize;
+    let len = rows::line_char_count(&text[next..], Row(0)).0 as usize;
     if spaced & (0 < left) & (0 < len) {
         return JoinTurn { gap: 1, len };
     }
@@ -114,7 +114,7 @@ pub fn join(
     ensures { λ r. ⌜ ((x f s op : List ℕ) → roomOf (lent (now (text .entry)) x f s op (now (cols .entry)) (now (flags .entry))) ≡ room → outcome (paperAnswer r) (now (text .exit)) op (now (cols .exit)) (now (flags .exit)) ≡ finished true view (lent (now (text .entry)) x f s op (now (cols .entry)) (now (flags .entry))) (joined isLF isSpace spaces (take (view .used) (now (text .entry))) (row .0) count spaced)) ⌝ }
 {
     let used = view.used;
-    let found = text::find_row(&text[0..used], row);
+    let found = rows::find_row(&text[0..used], row);
     let plan = join_plan(&text[0..used], found, count, spaced);
     let sizes = plan.sizes;
     let verdict = plan::judge(true, room, sizes);

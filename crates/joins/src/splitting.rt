@@ -132,7 +132,7 @@ pub fn split(
     ensures { λ r. ⌜ ((x f s op of os : List ℕ) → roomOf (lent (now (text .entry)) x f s op of os) ≡ room → outcome (paperAnswer r) (now (text .exit)) op of os ≡ finished (withinOk (take (view .used) (now (text .entry))) (SplitLines row) (now (cols .entry)) (now (flags .entry))) view (lent (now (text .entry)) x f s op of os) (split isLF isSpace spaces (take (view .used) (now (text .entry))) (row .0) (now (cols .entry)) (now (flags .entry)))) ⌝ }
 {
     let used = view.used;
-    let found = text::find_row(&text[0..used], row);
+    let found = rows::find_row(&text[0..used], row);
     let plan = split_plan(&text[0..used], found, cols, flags);
     let sizes = plan.sizes;
     let verdict = plan::judge(plan.within, room, sizes);

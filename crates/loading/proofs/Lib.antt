@@ -1,2 +1,3 @@
 pub mod Loading
 pub mod TextFrames
+pub mod Examples

@@ -1,3 +1,4 @@
 pub mod States
 pub mod Loads
 pub mod Calls
+pub mod Examples

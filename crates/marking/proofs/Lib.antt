@@ -2,3 +2,4 @@ pub mod Orders
 pub mod FlatMarks
 pub mod Carrying
 pub mod MarkLines
+pub mod Examples

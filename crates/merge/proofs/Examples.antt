@@ -9,4 +9,4 @@ use Rattle.merge.specs.Examples.{Examples}
 
 pub examples : Examples
 unfolding firstOf flat sels insert sorted collapsed collapse leaves mergedIn
-examples = record { touching = refl; equal = refl; chain = refl; empty = refl; bad-payload = refl; no-record = refl; too-many = refl }
+examples = record { touching = refl; equal = refl; chain = refl; empty = refl; bad-payload = refl; no-record = refl; too-many = refl; two-left = refl; exact = refl; full = refl }

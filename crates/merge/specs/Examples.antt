@@ -1,9 +1,10 @@
--- Examples of merging, as the whole call, into a slice that is full of 9.
+-- Examples of merging, as the whole call but for the last, into a slice that is full of 9.
 use mathlib.Core.List.{[], _∷_}
 use mathlib.Core.Path.{_≡_}
 use lib.ListN.{replicate}
 use Rattle.promise.specs.Paper.{done, refused}
-use Rattle.merge.specs.Call.{outcome, mergedIn}
+use Rattle.edit.specs.Call.{verdictOf}
+use Rattle.merge.specs.Call.{outcome, mergeTests, mergedIn}
 
 pub record Examples : Type 0 where
   -- touching is not sharing, and the second comes first
@@ -20,3 +21,8 @@ pub record Examples : Type 0 where
   pub no-record : mergedIn (replicate 8 0) (replicate 4 9) ≡ outcome (refused 9 0) (replicate 4 9)
   -- 3 before 4
   pub too-many : mergedIn (replicate 4_097 0) (replicate 4 9) ≡ outcome (refused 3 0) (replicate 4 9)
+  -- two numbers left over are 4 too
+  pub two-left : mergedIn (replicate 6 0) (replicate 8 9) ≡ outcome (refused 4 0) (replicate 8 9)
+  -- an output as long as the input suffices, and as many selections as the limit are not refused
+  pub exact : mergedIn (0 ∷ 5 ∷ 0 ∷ 4 ∷ []) (replicate 4 9) ≡ outcome (done 1) (0 ∷ 5 ∷ 0 ∷ 4 ∷ [])
+  pub full : verdictOf (mergeTests (replicate 4_096 0) (replicate 4_096 9)) ≡ done tt

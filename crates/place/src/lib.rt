@@ -1,13 +1,13 @@
 // Whether a line is sound and stands in its place. No edit is run.
+use forms::head_of;
 use frame::BYTE_LIMIT;
 use frame::Head;
 use frame::SHORT_BYTES;
 use frame::SHORT_LINE;
-use frame::head_of;
 use hex::Unhexed;
 use hex::unhex;
+use rows::contains;
 use select::Sel;
-use text::contains;
 ghost use mathlib.Core.Path.{_≡_};
 ghost use Prim.Native.Nat.{_*_, _≤_};
 ghost use lib.ListN.{length};

@@ -1,3 +1,4 @@
 pub mod Meanings
 pub mod Told
 pub mod Theorems
+pub mod Examples

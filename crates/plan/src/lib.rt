@@ -37,8 +37,8 @@ pub fn end_after(pos: Position, text: &[u32]) -> Position
     requires { ⌜ (pos .row .0 ≤ textLimit) × (pos .col .0 ≤ textLimit) × (length (now text) ≤ textLimit) ⌝ }
     ensures { λ r. ⌜ r ≡ pos ⊕ endOf isLF (now (text .entry)) ⌝ }
 {
-    let last = text::last_row(text);
-    let len = text::line_char_count(text, last);
+    let last = rows::last_row(text);
+    let len = rows::line_char_count(text, last);
     if last.0 == 0 {
         return Position {
             row: Row(pos.row.0),

@@ -1,3 +1,4 @@
 pub mod Printed
 pub mod WrittenLines
 pub mod InverseLine
+pub mod Examples

@@ -7,3 +7,4 @@ pub mod Tallies
 pub mod Frames
 pub mod Theorems
 pub mod EditLines
+pub mod Examples

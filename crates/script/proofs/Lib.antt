@@ -10,3 +10,4 @@ pub mod Reaches
 pub mod Stepping
 pub mod Twice
 pub mod Theorems
+pub mod Examples

@@ -1,3 +1,4 @@
 pub mod Overlaps
 pub mod Spans
 pub mod Theorems
+pub mod Examples

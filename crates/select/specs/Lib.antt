@@ -2,3 +2,4 @@ pub mod Sels
 pub mod Selections
 pub mod Answers
 pub mod Theorems
+pub mod Examples

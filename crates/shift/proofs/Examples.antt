@@ -34,6 +34,7 @@ examples = record {
   chunk-inside = refl;
   chunk-second = refl;
   split = refl;
+  split-sel = refl;
   outside = refl;
 }
 

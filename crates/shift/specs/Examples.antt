@@ -57,6 +57,7 @@ pub record Examples : Type 0 where
   pub chunk-second : Lands abcd (DeleteBlockChunks (at 0 0)) [] (1 ∷ 2 ∷ []) (at 1 2) (at 1 0)
   -- "SplitLines answers Dropped, which is no refusal."
   pub split : shiftOf abcd (SplitLines (rowAt 0)) [] [] (at 0 0) ≡ done dropped
+  pub split-sel : selShifted abcd 5 (SplitLines (rowAt 0)) [] [] [] (sel (at 0 0) (at 0 1)) ≡ done dropped
   -- raw positions may lie outside of the text and pass 1,000,000
   pub outside : Lands [] (InsertStr (at 0 0)) (97 ∷ []) [] (at 0 1_000_000) (at 0 1_000_001)
 

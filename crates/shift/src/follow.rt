@@ -1,13 +1,13 @@
 // A position followed through an edit, kind by kind; and the two ends of a selection.
 use crate::Carried;
 use crate::Track;
-use after::after_delete_block;
-use after::after_delete_block_chunks;
-use after::after_delete_char;
-use after::after_delete_lines;
-use after::after_insert;
-use after::after_insert_block;
 use after::after_join;
+use after_boxes::after_delete_block;
+use after_boxes::after_delete_block_chunks;
+use after_boxes::after_insert_block;
+use after_chars::after_delete_char;
+use after_chars::after_delete_lines;
+use after_chars::after_insert;
 use edit::Edit;
 use edit::MotionKind;
 use select::Sel;

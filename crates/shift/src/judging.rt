@@ -1,14 +1,14 @@
 // What a shift is refused for: rows 1 to 4, and 6.
+use bad_payload::payload_good;
 use edit::Edit;
 use edit::MotionKind;
 use edit::Refusal;
 use edit::Verdict;
 use given::first_refusal;
-use given::lists_few;
-use given::numbers_small;
-use given::payload_good;
 use text::Position;
 use text::is_text;
+use too_big::numbers_small;
+use too_many::lists_few;
 ghost use mathlib.Core.Path.{_≡_};
 ghost use Rattle.edit.specs.Call.{paperVerdict, verdictOf};
 ghost use Rattle.shift.specs.Call.{orderedRange, orderedOk, shiftTests};

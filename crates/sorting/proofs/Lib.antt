@@ -3,3 +3,4 @@ pub mod Flats
 pub mod Halves
 pub mod Weaves
 pub mod Theorems
+pub mod Examples

@@ -2,3 +2,4 @@ pub mod Flat
 pub mod Sorting
 pub mod Weaving
 pub mod Theorems
+pub mod Examples

@@ -2,3 +2,4 @@ pub mod Moves
 pub mod Gaps
 pub mod Overs
 pub mod Rooms
+pub mod Examples

@@ -7,3 +7,4 @@ pub mod Shifts
 pub mod EditLeaves
 pub mod Stepping
 pub mod Theorems
+pub mod Examples

@@ -11,3 +11,4 @@ pub mod Changes
 pub mod Turns
 pub mod Order
 pub mod Fronts
+pub mod Examples

@@ -3,3 +3,4 @@ pub mod Text
 pub mod Answers
 pub mod Calls
 pub mod Theorems
+pub mod Examples

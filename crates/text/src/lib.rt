@@ -1,24 +1,14 @@
 // Texts and places in them: rows, columns, character offsets, and which texts are admitted.
 mod admit;
-mod rows;
 
 pub use admit::TEXT_LIMIT;
 pub use admit::all_admissible;
 pub use admit::is_text;
-pub use rows::LF;
-pub use rows::clamp;
-pub use rows::clamp_position;
-pub use rows::contains;
-pub use rows::find_row;
-pub use rows::last_row;
-pub use rows::line_char_count;
-pub use rows::line_to_char;
-pub use rows::locate;
-pub use rows::pos_to_char_idx;
-pub use rows::row_count;
 ghost use mathlib.Core.Path.{_≡_};
 ghost use Prim.Native.Nat.{min, max};
 ghost use Rattle.text.specs.Rows.{upto, earlier, later};
+
+pub const LF: u32 = 10;
 
 #[repr(C)]
 pub struct Row(pub u32);

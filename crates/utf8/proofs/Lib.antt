@@ -8,3 +8,4 @@ pub mod Writings
 pub mod Theorems
 pub mod Settled
 pub mod Parts
+pub mod Examples

@@ -4,3 +4,4 @@ pub mod Reading
 pub mod Answers
 pub mod Calls
 pub mod Theorems
+pub mod Examples

@@ -1,9 +1,9 @@
 // The cursor and positions in a view's text.
 use crate::CursorSet;
 use edit::View;
+use rows::clamp;
 use text::Clamped;
 use text::Position;
-use text::clamp;
 use text::is_text;
 ghost use mathlib.Core.Path.{_≡_};
 ghost use Rattle.text.specs.Answers.{paperClamped};
@@ -27,5 +27,5 @@ pub fn clamp_position(buffer: &[u32], view: View, pos: Position) -> Clamped
     ensures { λ r. ⌜ paperClamped r ≡ clampedIn (now (buffer .entry)) (view .used) pos ⌝ }
 {
     let used = view.used;
-    text::clamp_position(buffer, used, pos)
+    rows::clamp_position(buffer, used, pos)
 }

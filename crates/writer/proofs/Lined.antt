@@ -25,9 +25,9 @@ use Rattle.frame.specs.Format.{Frame, text, mark, edit, editBytes, frameBytes, 
 use Rattle.frame.specs.Numbers.{position}
 use Rattle.frame.specs.Writes.{lineOf}
 use Rattle.writer.specs.Calls.{lineInto, writtenInto}
-use Rattle.writer.specs.Sizes.{sizeOf}
-use Rattle.writer.proofs.Pasted.{first-put, behind}
-use Rattle.writer.proofs.Listed.{counted-bad}
+use Rattle.frame.specs.Sizes.{sizeOf}
+use Rattle.frame_bytes.proofs.Pasted.{first-put, behind}
+use Rattle.frame_bytes.proofs.Listed.{counted-bad}
 use Rattle.writer.proofs.Measured.{edit-length}
 
 -- what the digits of a frame's bytes leave

@@ -11,8 +11,8 @@ use Rattle.edit.specs.declared.Edit.{Edit}
 use Rattle.edit.specs.declared.Edit.the-variants.{InsertChar, InsertStr, DeleteRange, JoinLines, SplitLines, Replace, InsertBlock, DeleteBlockChunks}
 use Rattle.edit.specs.Refusals.{sum}
 use Rattle.frame.specs.Format.{editBytes, hasBytes, editChars}
-use Rattle.writer.specs.Sizes.{sizeOf}
-use Rattle.writer.proofs.Listed.{columns-length, widths-length, chunks-length}
+use Rattle.frame.specs.Sizes.{sizeOf}
+use Rattle.frame_bytes.proofs.Listed.{columns-length, widths-length, chunks-length}
 
 pub edit-length : (e : Edit) (x f s : List ℕ) → hasBytes e x f s ≡ true → length (editBytes e x f s) ≡ sizeOf e (length f) (length (writing (editChars e x)))
 unfolding editBytes hasBytes editChars sizeOf

@@ -1,3 +1,3 @@
 pub mod Calls
-pub mod Sizes
 pub mod Theorems
+pub mod Examples

@@ -1,18 +1,13 @@
 // Frames written as lines: the frame's bytes first, then their digits.
-mod edits;
-mod lists;
-mod puts;
-mod sizes;
-
-use crate::edits::put_edit;
-use crate::puts::put_position;
-use crate::sizes::byte_count;
-use crate::sizes::has_bytes;
-use crate::sizes::octets_of;
 use edit::Edit;
 use edit::Refusal;
 use encoding::encode;
 use frame::BYTE_LIMIT;
+use frame_bytes::put_edit;
+use frame_bytes::put_position;
+use frame_size::byte_count;
+use frame_size::has_bytes;
+use frame_size::octets_of;
 use hex::Hexed;
 use hex::hex;
 use select::Sel;

@@ -5,7 +5,7 @@ use borrow.Author.Needs.{needs}
 use lib.ListN.{length, drop}
 use Rattle.decoding.proofs.Counts.{counting, count-none, count-again, count-bad, count-all}
 use Rattle.decoding.proofs.Runs.{count-run}
-use Rattle.decoding.proofs.Steps.{ascii, three-step}
+use Rattle.sequences.proofs.Steps.{ascii, three-step}
 use Rattle.utf8.specs.Answers.{paperStep}
 use Rattle.utf8.specs.Calls.{counted}
 use Rattle.utf8.specs.Reading.{readFrom, reading}

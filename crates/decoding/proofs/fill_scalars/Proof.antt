@@ -6,7 +6,7 @@ use borrow.Author.Needs.{needs}
 use lib.ListN.{length, take, drop, length-set}
 use Rattle.decoding.proofs.Fills.{Filled, fill-again, fill-two, fill-three, fill-four, fill-all}
 use Rattle.decoding.proofs.Runs.{fill-run}
-use Rattle.decoding.proofs.Steps.{ascii}
+use Rattle.sequences.proofs.Steps.{ascii}
 use Rattle.utf8.specs.Calls.{scalarsOf}
 use Rattle.utf8.specs.Reading.{scalars, readFrom, reading}
 use Rattle.decoding.proofs.fill_scalars.Statement.{statement}

@@ -1,6 +1,6 @@
 use native.Mathlib.Omega.{arith}
 use borrow.Author.Needs.{needs}
-use Rattle.decoding.proofs.Steps.{three-cut, three-tested}
+use Rattle.sequences.proofs.Steps.{three-cut, three-tested}
 use Rattle.decoding.proofs.starts_three.Statement.{statement}
 use Rattle.decoding.proofs.starts_three.Tie as tie
 

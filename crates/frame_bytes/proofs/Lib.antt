@@ -1,0 +1,3 @@
+pub mod Pasted
+pub mod Listed
+pub mod Framed

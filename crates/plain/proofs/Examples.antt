@@ -1,0 +1,8 @@
+-- The examples, computed.
+use mathlib.Core.Path.{refl}
+use Rattle.plain.specs.Meanings.{item}
+use Rattle.plain.specs.Examples.{RuledOut}
+
+pub ruled-out : RuledOut
+unfolding item
+ruled-out = record { lines = refl; lines-told = refl; spaced = refl; payload = refl; fits = refl; no-text = refl; span = refl }

@@ -1,0 +1,34 @@
+-- What rules out wrong records: each line is what the promise asks for at one input, and above it stands the program that tells something else.
+use mathlib.Core.Path.{_≡_}
+use mathlib.Core.Bool.{true, false}
+use mathlib.Core.Option.{some}
+use Prim.Native.Nat.{ℕ}
+use Rattle.promise.specs.Paper.{done}
+use Rattle.text.specs.Rows.{at}
+use Rattle.text.specs.declared.Clamped.the-variants.{BadText}
+use Rattle.text.specs.Answers.{paperClamped}
+use Rattle.fit.specs.Calls.{allFit}
+use Rattle.select.specs.Answers.{between}
+use Rattle.edit.specs.declared.MotionKind.the-variants.{Line as Lines}
+use Rattle.edit.specs.declared.Edit.the-variants.{DeleteRange, JoinLines}
+use Rattle.edit.specs.Edits.{rowAt}
+use Rattle.plain.specs.declared.Numbers.{Numbers}
+use Rattle.plain.specs.Meanings.{meant, numbersOf}
+use Rattle.plain.specs.Told.{toldDone, toldClamped, toldFit, toldSpan}
+
+abbrev pub ofKind : ℕ → Numbers
+ofKind k = record { kind = k; start = at 1 2; end = at 3 4; count = 5 }
+
+pub record RuledOut : Type 0 where
+  -- a Line delete meant, or told, as a Char delete
+  pub lines : meant (ofKind 3) ≡ some (DeleteRange (at 1 2) (at 3 4) Lines)
+  pub lines-told : numbersOf (DeleteRange (at 1 2) (at 3 4) Lines) .kind ≡ 3
+  -- a join with spaces meant as one without, or at the row of the other end
+  pub spaced : meant (ofKind 6) ≡ some (JoinLines (rowAt 1) 5 true)
+  -- as much told of the payload as of the first list
+  pub payload : toldDone (record { view = record { used = 0; cursor = at 0 0; changes = 0 }; inverse = JoinLines (rowAt 1) 5 true; payload = 1; first = 2; second = 3 }) .payload ≡ 1
+  -- that all rows fit told as refusal 1; what is no text told as a position that is not there
+  pub fits : toldFit (done allFit) ≡ record { refusal = 0; found = false; at = at 0 0 }
+  pub no-text : toldClamped (paperClamped BadText) ≡ record { refusal = 1; found = false; at = at 0 0 }
+  -- a closed span told to end where it begins
+  pub span : toldSpan (between 1 3) ≡ record { refusal = 0; covered = true; «open» = false; lo = 1; hi = 3 }
