@@ -127,6 +127,9 @@ pub record RuledOut : Type 0 where
   -- the record of a cut judged to be as long as the text
   pub cut-short :
       Gives sixRows (plain (DeleteRange (at 0 0) (at 0 1) Char) []) (10 ∷ 98 ∷ 10 ∷ 99 ∷ 10 ∷ 100 ∷ 10 ∷ 101 ∷ 10 ∷ 102 ∷ []) (plain (InsertStr (at 0 0)) (97 ∷ [])) (at 0 0)
+  -- the room for the record of a cut taken from a list's slice
+  pub cut-long :
+      Gives sixRows (plain (DeleteRange (at 0 0) (at 2 1) Char) []) (10 ∷ 100 ∷ 10 ∷ 101 ∷ 10 ∷ 102 ∷ []) (plain (InsertStr (at 0 0)) (97 ∷ 10 ∷ 98 ∷ 10 ∷ 99 ∷ [])) (at 0 0)
   -- one end of a Line delete taken for both; the larger of two rows always the second
   pub lines-up : Gives threeRows (plain (DeleteRange (at 1 0) (at 0 0) Lines) []) (99 ∷ []) (plain (InsertStr (at 0 0)) (97 ∷ 10 ∷ 98 ∷ 10 ∷ [])) (at 0 0)
   -- a space put behind an empty row
@@ -158,6 +161,9 @@ pub record RuledOut : Type 0 where
   -- the height of a Block delete taken for its breadth; its second row taken to start at the LF before it, or behind the first chunk
   pub block-cut :
       Gives abcdef (plain (DeleteRange (at 0 0) (at 1 0) Block) []) (98 ∷ 10 ∷ 100 ∷ 101 ∷ 102 ∷ []) (whole (InsertBlock (at 0 0)) (97 ∷ 99 ∷ []) (1 ∷ 1 ∷ []) []) (at 0 0)
+  -- the columns of a Block delete not put in order
+  pub block-corner :
+      Gives abcdef (plain (DeleteRange (at 0 1) (at 1 0) Block) []) (10 ∷ 101 ∷ 102 ∷ []) (whole (InsertBlock (at 0 0)) (97 ∷ 98 ∷ 99 ∷ 100 ∷ []) (2 ∷ 2 ∷ []) []) (at 0 0)
   -- a number of the second list, or of a Block delete's second end, not judged
   pub big-flag : Refuses abc (whole (SplitLines (rowAt 0)) [] (1 ∷ []) (1_000_001 ∷ [])) 2
   pub big-end : Refuses abc (plain (DeleteRange (at 0 0) (at 0 1_000_001) Block) []) 2

@@ -18,4 +18,4 @@ use Rattle.framed.specs.Examples.{RuledOut}
 
 pub ruled-out : RuledOut
 unfolding flatten applied firstOf leaves resultOf anyFlag blockInserted charsDeleted chunksDeleted chunksOf cutAll editedBy gap inserted joinCols joinFlags joinRow joined lineFrom lineTo linesDeleted padsOf pieces put putAll rangeDeleted replaced split splitFirst splitRow unspace fewOk fewRows payloadOk recordOk roomOk smallOk smallRange sum withinAll withinFirst withinOk before blockForm blockOf chunksForm columnsIn deleteForm flagged flagsIn formBy insertForm joinForm kindForm lineForm markForm padsIn replaceForm splitForm stringsFrom widthsIn items numberIn ahead contents editOf firstList readForm textOf frameApplied digitOf hexed isDigit paired unhexed valueOf placed clamp endOf inText lastRow lines offset onto rowCount rowLen rowStart unlines admissible all renewed textOk prepend readFrom begins number scalar taken
-ruled-out = record { a-mark = refl }
+ruled-out = record { a-mark = refl; malformed = refl }

@@ -1,4 +1,5 @@
--- What rules out wrong appliers of lines: what the promise asks for at one line.
+-- What rules out wrong appliers of lines: each line is what the promise asks for at one line of a script, and above it stands the program
+-- that answers something else there.
 use mathlib.Core.Path.{_≡_}
 use mathlib.Core.List.{[], _∷_}
 use lib.ListN.{replicate}
@@ -12,4 +13,8 @@ pub record RuledOut : Type 0 where
   -- a mark refused by another number than a malformed line
   pub a-mark :
       lineApplied (record { used = 1; cursor = at 0 0; changes = 0 }) (hexed (0x02 ∷ replicate 16 0)) (0x61 ∷ 7 ∷ []) (9 ∷ []) (9 ∷ []) (9 ∷ [])
+      ≡ outcome (refused 10 0) (0x61 ∷ 7 ∷ []) (9 ∷ []) (9 ∷ []) (9 ∷ [])
+  -- a malformed line refused by 8
+  pub malformed :
+      lineApplied (record { used = 1; cursor = at 0 0; changes = 0 }) (hexed (0x03 ∷ [])) (0x61 ∷ 7 ∷ []) (9 ∷ []) (9 ∷ []) (9 ∷ [])
       ≡ outcome (refused 10 0) (0x61 ∷ 7 ∷ []) (9 ∷ []) (9 ∷ []) (9 ∷ [])

@@ -8,4 +8,4 @@ use Rattle.loading.specs.Examples.{RuledOut}
 
 pub ruled-out : RuledOut
 unfolding digitOf hexed framedBy loaded admissible all scalar
-ruled-out = record { full = refl; inadmissible = refl; second = refl }
+ruled-out = record { full = refl; inadmissible = refl; bad-utf8 = refl; second = refl }

@@ -4,7 +4,7 @@ use mathlib.Core.Path.{_≡_}
 use mathlib.Core.Bool.{true, false}
 use mathlib.Core.List.{List, [], _∷_, _++_}
 use Prim.Native.Nat.{ℕ}
-use Rattle.promise.specs.Paper.{done}
+use Rattle.promise.specs.Paper.{done, refused}
 use Rattle.text.specs.Rows.{at}
 use Rattle.select.specs.Sels.{sel}
 use Rattle.frame.specs.Format.{mark}
@@ -20,6 +20,8 @@ pub record RuledOut : Type 0 where
   pub full : loaded small (0x61 ∷ 0x62 ∷ []) ≡ stepped (state (record { used = 2; cursor = at 0 0; changes = 0 }) (0x61 ∷ 0x62 ∷ []) (small .place) (small .marks)) []
   -- an inadmissible value refused by 8
   pub inadmissible : loaded small (13 ∷ []) ≡ refuses small 1
+  -- a text that is not UTF-8 printed as a malformed line
+  pub bad-utf8 : framedBy (λ w. refuses small 9) small (refused 5 1) ≡ refuses small 5
   -- each mark kept over the first
   pub second :
       framedBy (λ w. refuses small 9) small (done (mark (sel (at 0 1) (at 2 3))))

@@ -17,4 +17,4 @@ use Rattle.marking.specs.Examples.{RuledOut}
 
 pub ruled-out : RuledOut
 unfolding afterDeleteBlock afterDeleteBlockChunks afterDeleteChar afterDeleteLines afterInsert afterInsertBlock afterJoin startCols pieces chunkBytes columnBytes editBytes frameBytes widthBytes digitOf hexed gapLen carriedMark flatMark flatMarks markIn marksIn markLine carriedOver afterDelete shifted lastRow lines onto rowCount rowLen writing octets
-ruled-out = record { ends = refl; second = refl; lost = refl }
+ruled-out = record { ends = refl; second = refl; drops = refl; lost = refl }

@@ -6,7 +6,7 @@ use Rattle.text.specs.Rows.{at}
 use Rattle.select.specs.Sels.{sel}
 use Rattle.edit.specs.declared.Edit.the-variants.{InsertStr}
 use Rattle.shift.specs.Answers.{to, dropped}
-use Rattle.marking.specs.FlatMarks.{flatMarks, markIn, marksIn}
+use Rattle.marking.specs.FlatMarks.{flatMark, flatMarks, markIn, marksIn}
 use Rattle.marking.specs.Carries.{carriedMark}
 use Rattle.marking.specs.MarkLines.{markLine}
 
@@ -17,5 +17,7 @@ pub record RuledOut : Type 0 where
   pub second :
       flatMarks (map (carriedMark [] (InsertStr (at 0 0)) (0x58 ∷ []) []) (marksIn 2 (1 ∷ 0 ∷ 0 ∷ 0 ∷ 1 ∷ 1 ∷ 0 ∷ 2 ∷ 0 ∷ 3 ∷ [])))
       ≡ 1 ∷ 0 ∷ 1 ∷ 0 ∷ 2 ∷ 1 ∷ 0 ∷ 3 ∷ 0 ∷ 4 ∷ []
+  -- a dropped mark kept, at the front of the text
+  pub drops : flatMark dropped ≡ 0 ∷ 0 ∷ 0 ∷ 0 ∷ 0 ∷ []
   -- a dropped mark printed as 02
   pub lost : markLine dropped ≡ 48 ∷ 51 ∷ 10 ∷ []

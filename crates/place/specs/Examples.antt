@@ -19,6 +19,10 @@ fresh = record { sound = false; marks = 0; edited = false }
 pub record RuledOut : Type 0 where
   -- a mark's anchor looked up twice, and its head not
   pub head : placed fresh (0x61 ∷ []) (mark (sel (at 0 0) (at 0 2))) ≡ malformed
+  -- a mark kept after an edit, while there are fewer than 64
+  pub after-edit : placed (record { sound = true; marks = 0; edited = true }) (0x61 ∷ []) (mark (sel (at 0 0) (at 0 1))) ≡ malformed
+  -- a malformed line that counts as a sound one
+  pub uncounted : seen fresh malformed ≡ fresh
   -- no line that counts as a sound one; an edit that is not seen
   pub sound : seen fresh (text []) ≡ record { sound = true; marks = 0; edited = false }
   pub edited : seen fresh (plain (InsertStr (at 0 0))) ≡ record { sound = true; marks = 0; edited = true }

@@ -4,6 +4,8 @@ use mathlib.Core.Bool.{true, false}
 use mathlib.Core.Option.{some}
 use Prim.Native.Nat.{ℕ}
 use Rattle.promise.specs.Paper.{done}
+use Rattle.utf8.specs.declared.Decoded.the-variants.{NoRoom}
+use Rattle.utf8.specs.Answers.{paperDecoded}
 use Rattle.text.specs.Rows.{at}
 use Rattle.text.specs.declared.Clamped.the-variants.{BadText}
 use Rattle.text.specs.Answers.{paperClamped}
@@ -14,7 +16,7 @@ use Rattle.edit.specs.declared.Edit.the-variants.{DeleteRange, JoinLines}
 use Rattle.edit.specs.Edits.{rowAt}
 use Rattle.plain.specs.declared.Numbers.{Numbers}
 use Rattle.plain.specs.Meanings.{meant, numbersOf}
-use Rattle.plain.specs.Told.{toldDone, toldClamped, toldFit, toldSpan}
+use Rattle.plain.specs.Told.{toldCount, toldDone, toldClamped, toldFit, toldSpan}
 
 abbrev pub ofKind : ℕ → Numbers
 ofKind k = record { kind = k; start = at 1 2; end = at 3 4; count = 5 }
@@ -30,5 +32,7 @@ pub record RuledOut : Type 0 where
   -- that all rows fit told as refusal 1; what is no text told as a position that is not there
   pub fits : toldFit (done allFit) ≡ record { refusal = 0; found = false; at = at 0 0 }
   pub no-text : toldClamped (paperClamped BadText) ≡ record { refusal = 1; found = false; at = at 0 0 }
+  -- 8 told as 9
+  pub no-room : toldCount (paperDecoded NoRoom) ≡ record { refusal = 8; offset = 0; count = 0 }
   -- a closed span told to end where it begins
   pub span : toldSpan (between 1 3) ≡ record { refusal = 0; covered = true; «open» = false; lo = 1; hi = 3 }

@@ -9,11 +9,11 @@ use Rattle.edit.specs.Call.{firstOf}
 use Rattle.joins.specs.Turns.{gapLen}
 use Rattle.after.specs.After.{afterInsert, afterDeleteChar, afterDeleteLines, afterDeleteBlock, startCols, afterJoin, afterInsertBlock, afterDeleteBlockChunks}
 use Rattle.shift.specs.Kinds.{afterDelete, shifted}
-use Rattle.shift.specs.Call.{orderedRange, orderedOk, positionShifted, selShifted}
+use Rattle.shift.specs.Call.{orderedRange, orderedOk, positionShifted, selShifted, carriedOver}
 use Rattle.shift.specs.Examples.{Examples, FirstRefusals, Moves}
 
 pub examples : Examples
-unfolding scalar onto lines rowCount lastRow rowLen admissible all textOk sum smallRange smallOk fewRows fewOk payloadOk firstOf gapLen afterInsert afterDeleteChar afterDeleteLines afterDeleteBlock startCols afterJoin afterInsertBlock afterDeleteBlockChunks afterDelete shifted orderedRange orderedOk positionShifted selShifted
+unfolding scalar onto lines rowCount lastRow rowLen admissible all textOk sum smallRange smallOk fewRows fewOk payloadOk firstOf gapLen afterInsert afterDeleteChar afterDeleteLines afterDeleteBlock startCols afterJoin afterInsertBlock afterDeleteBlockChunks afterDelete shifted orderedRange orderedOk positionShifted selShifted carriedOver
 examples = record {
   run = refl;
   run-back = refl;
@@ -35,11 +35,12 @@ examples = record {
   chunk-second = refl;
   split = refl;
   split-sel = refl;
+  carried = refl;
   outside = refl;
 }
 
 pub first-refusals : FirstRefusals
-unfolding scalar admissible all textOk smallRange smallOk fewRows fewOk payloadOk firstOf orderedRange orderedOk positionShifted selShifted
+unfolding scalar admissible all textOk smallRange smallOk fewRows fewOk payloadOk firstOf orderedRange orderedOk positionShifted selShifted carriedOver
 first-refusals = record {
   bad-text = refl;
   too-big = refl;

@@ -13,7 +13,7 @@ use Rattle.edit.specs.declared.Edit.the-variants.{InsertStr, DeleteRange, JoinL
 use Rattle.edit.specs.Edits.{rowAt}
 use Rattle.select.specs.Sels.{sel}
 use Rattle.shift.specs.Answers.{Followed, to, dropped}
-use Rattle.shift.specs.Call.{positionShifted, selShifted}
+use Rattle.shift.specs.Call.{positionShifted, selShifted, carriedOver}
 use Rattle.shift.specs.Theorems.{Unchanged}
 
 -- in a buffer with three places behind the text
@@ -58,6 +58,8 @@ pub record Examples : Type 0 where
   -- "SplitLines answers Dropped, which is no refusal."
   pub split : shiftOf abcd (SplitLines (rowAt 0)) [] [] (at 0 0) ≡ done dropped
   pub split-sel : selShifted abcd 5 (SplitLines (rowAt 0)) [] [] [] (sel (at 0 0) (at 0 1)) ≡ done dropped
+  -- one that is carried along is dropped where an end is past 1,000,000
+  pub carried : carriedOver abcd (InsertStr (at 0 0)) [] [] (sel (at 0 0) (at 0 1_000_001)) ≡ dropped
   -- raw positions may lie outside of the text and pass 1,000,000
   pub outside : Lands [] (InsertStr (at 0 0)) (97 ∷ []) [] (at 0 1_000_000) (at 0 1_000_001)
 

@@ -12,7 +12,7 @@ use Rattle.script.specs.declared.Ran.the-variants.{NoRoom}
 use Rattle.script.specs.Calls.{paperRan}
 use Rattle.shift.specs.Answers.{dropped}
 use Rattle.plain.specs.Told.{toldCount}
-use Rattle.told.specs.Shifts.{toldSelShifted}
+use Rattle.told.specs.Shifts.{toldShifted, toldSelShifted}
 
 pub record RuledOut : Type 0 where
   -- a line told to have as many digits as its frame has bytes
@@ -21,5 +21,6 @@ pub record RuledOut : Type 0 where
   pub selections : toldCount (paperMerged (Count 4)) ≡ record { refusal = 0; offset = 0; count = 4 }
   -- want of room for a script's output told as 9
   pub no-room : toldCount (paperRan NoRoom) ≡ record { refusal = 8; offset = 0; count = 0 }
-  -- a selection that cannot be followed told as refused by 6
+  -- a position or a selection that cannot be followed told as refused by 6
+  pub lost-place : toldShifted (done dropped) ≡ record { refusal = 0; found = false; at = at 0 0 }
   pub lost : toldSelShifted (done dropped) ≡ record { refusal = 0; found = false; sel = sel (at 0 0) (at 0 0) }

@@ -38,4 +38,4 @@ use Rattle.winchbarn.specs.Examples.{RuledOut}
 
 pub ruled-out : RuledOut
 unfolding flatten afterDeleteBlock afterDeleteBlockChunks afterDeleteChar afterDeleteLines afterInsert afterInsertBlock afterJoin startCols applied firstOf isUndoable leaves rangeUndoable resultOf undoable anyFlag blockInserted charsDeleted chunksDeleted chunksOf cutAll editedBy gap inserted joinCols joinFlags joinRow joined lineFrom lineTo linesDeleted padsOf pieces put putAll rangeDeleted replaced split splitFirst splitRow unspace fewOk fewRows payloadOk recordOk roomOk smallOk smallRange sum wide withinAll withinFirst withinOk firstOver chunkBytes columnBytes editBytes editChars frameBytes frameChars hasBytes hasFrame widthBytes before blockForm blockOf chunksForm columnsIn deleteForm flagged flagsIn formBy insertForm joinForm kindForm lineForm markForm padsIn replaceForm splitForm stringsFrom widthsIn items numberIn ahead contents editOf firstList readForm textOf lineOf frameApplied digitOf hexed isDigit paired unhexed valueOf gapLen framedBy loaded inOrder markLine markLines leaves-merge mergedIn collapse collapsed placed seen item lineStep run blockSpan charSpan lineSpan orderedOk orderedRange positionShifted selShifted afterDelete shifted flat sels insert sorted answered carried ending ran step clamp endOf inText lastRow lines offset onto rowCount rowLen rowStart unlines admissible all renewed textOk decoded encoded stored allScalar prepend readFrom writing begins number octets scalar taken lineInto
-ruled-out = record { run-script = refl; apply-edit = refl; apply-frame = refl; write-edit = refl; undoable = refl; clamp-position = refl; box-fit = refl; shift-position = refl; shift-sel = refl; merge-overlapping = refl; row-span = refl; decode = refl; encode = refl }
+ruled-out = record { run-script = refl; apply-edit = refl; apply-frame = refl; write-edit = refl; undoable = refl; undoable-kind = refl; clamp-position = refl; box-fit = refl; shift-position = refl; shift-sel = refl; merge-overlapping = refl; row-span = refl; decode = refl; encode = refl }

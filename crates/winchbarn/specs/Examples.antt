@@ -1,5 +1,5 @@
 -- What rules out wrong functions for C: each line is what the promise of one function asks for at one call, and above it stands the program that
--- leaves something else there. (Of apply_edit and undoable a must-fail edit is kept too.) A slice to be written is full of 9.
+-- leaves something else there. (Of apply_edit a must-fail edit is kept too.) A slice to be written is full of 9.
 use mathlib.Core.Path.{_≡_}
 use mathlib.Core.Bool.{true, false}
 use mathlib.Core.List.{List, [], _∷_, _++_}
@@ -56,6 +56,8 @@ pub record RuledOut : Type 0 where
   pub write-edit : lineCall (atFront 7) [] (3 ∷ []) (1 ∷ []) (replicate 20 9) ≡ counted (written 20) (hexed (0x13 ∷ 0 ∷ 0 ∷ 0 ∷ 0 ∷ 0 ∷ 0 ∷ 0 ∷ 3 ∷ 1 ∷ []))
   -- undoable: a cut at the front refused, or told as no
   pub undoable : undoableCall one (atFront 2) (0x61 ∷ []) [] [] [] ≡ record { refusal = 0; yes = true }
+  -- undoable: a kind that is none refused by 4
+  pub undoable-kind : undoableCall one (atFront 11) (0x61 ∷ []) [] [] [] ≡ record { refusal = 10; yes = false }
   -- clamp_position: a position brought into the whole buffer
   pub clamp-position : toldClamped (clampedIn (0x61 ∷ 0x61 ∷ []) 1 (at 0 9)) ≡ foundAt (at 0 1)
   -- box_fit: the number of cells taken for the text's length
