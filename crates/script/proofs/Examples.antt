@@ -28,4 +28,4 @@ use Rattle.script.specs.Examples.{RuledOut}
 
 pub ruled-out : RuledOut
 unfolding flatten afterDeleteBlock afterDeleteBlockChunks afterDeleteChar afterDeleteLines afterInsert afterInsertBlock afterJoin startCols applied firstOf leaves resultOf anyFlag blockInserted charsDeleted chunksDeleted chunksOf cutAll editedBy gap inserted joinCols joinFlags joinRow joined lineFrom lineTo linesDeleted padsOf pieces put putAll rangeDeleted replaced split splitFirst splitRow unspace fewOk fewRows payloadOk recordOk roomOk smallOk smallRange sum withinAll withinFirst withinOk chunkBytes columnBytes editBytes frameBytes widthBytes before blockForm blockOf chunksForm columnsIn deleteForm flagged flagsIn formBy insertForm joinForm kindForm lineForm markForm padsIn replaceForm splitForm stringsFrom widthsIn items numberIn ahead contents editOf firstList readForm textOf digitOf hexed isDigit paired unhexed valueOf gapLen framedBy loaded inOrder markLine markLines placed seen lineStep run orderedOk orderedRange selShifted afterDelete shifted answered carried ending ran step clamp endOf inText lastRow lines offset onto rowCount rowLen rowStart unlines admissible all renewed textOk stored prepend readFrom writing begins number octets scalar taken
-ruled-out = record { exact = refl; no-room = refl }
+ruled-out = record { two-edits = refl; exact = refl; no-room = refl }
