@@ -1,17 +1,26 @@
 #!/usr/bin/env bash
-# Runs scriptrun on scripts: each of examples/ against its stored output, and some that are too long to store. Its last line says how many passed.
+# Runs scriptrun on scripts: each of examples/ against its stored output, and some that are too long to store. What is printed is compared
+# byte for byte; the exit status has to be 0, and standard error empty. Its last line says how many passed.
 set -euo pipefail
 cd "$(dirname "${BASH_SOURCE[0]}")/.."
-run="tests/run.sh scriptrun"
 passed=0
+room=$(mktemp -d)
+trap 'rm -rf "$room"' EXIT
 
-expect() { # NAME, EXPECTED; what was printed comes on standard input
-    local got
-    got=$(cat)
-    if [ "$got" != "$2" ]; then
-        echo "$1: not what was expected" >&2
-        exit 1
-    fi
+fail() { # NAME, WHAT
+    echo "$1: $2" >&2
+    exit 1
+}
+
+run() { # NAME; the script comes on standard input, and what it prints stands in $room/out
+    local status=0
+    tests/run.sh scriptrun >"$room/out" 2>"$room/err" || status=$?
+    [ "$status" -eq 0 ] || fail "$1" "exit status $status"
+    [ ! -s "$room/err" ] || fail "$1" "standard error: $(head -n 1 "$room/err")"
+}
+
+same() { # NAME; what is expected comes on standard input
+    cmp - "$room/out" >&2 || fail "$1" "not what was expected"
     passed=$((passed + 1))
 }
 
@@ -20,23 +29,45 @@ repeat() { # WORD, COUNT
 }
 
 for script in examples/*.script; do
-    expect "$script" "$(cat "${script%.script}.out")" < <($run < "$script")
+    run "$script" <"$script"
+    same "$script" <"${script%.script}.out"
 done
 
 # the input in pieces of one byte
-expect "pieces" "$(cat examples/menu.out)" < <(awk 'BEGIN { RS = "^$" } { n = length($0); for (i = 1; i <= n; i++) { printf "%s", substr($0, i, 1); fflush() } }' examples/menu.script | $run)
+run "pieces" < <(awk 'BEGIN { RS = "^$" } { n = length($0); for (i = 1; i <= n; i++) { printf "%s", substr($0, i, 1); fflush() } }' examples/menu.script)
+same "pieces" <examples/menu.out
 
-# a line of two million digits is one malformed line, and the next is judged as usual
-expect "endless line" $'0a\n00110000000000000000000000000000000001\n0161' < <({ repeat 61 1000000; echo; echo 10000000000000000061; } | $run)
+# A block of 36,864 digits, as many as a line may have, below the last row of the text: its one chunk has 6,140 characters, and goes nowhere.
+longest() {
+    printf '150000000500000000000047f3'
+    repeat e38182 6139
+    printf 'c3a9'
+}
+run "longest line" < <(longest; echo)
+same "longest line" <<<$'00160000000500000000000017fc00000000\n01'
 
-# 10,000 insertions of one character into a text of 4,000: there is room for 96 of them
+# With more digits it is malformed, whether with one byte more or with two million digits, and the next line is judged as usual.
+run "byte too long" < <(longest; echo 61)
+same "byte too long" <<<$'0a\n01'
+run "endless line" < <(longest; repeat 61 1000000; echo; echo 10000000000000000061)
+same "endless line" <<<$'0a\n00110000000000000000000000000000000001\n0161'
+
+# 10,000 insertions of one character into a text of 4,000: there is room for 96 of them, each put in before what the ones before it did
 many() {
     printf '01'
     repeat 61 4000
     echo
     awk 'BEGIN { for (i = 0; i < 10000; i++) printf "1000000000%08x62\n", i % 4000 }'
 }
-expect "full buffer" "96 00 1 01 9904 08" < <(many | $run | cut -c1-2 | sort | uniq -c | xargs)
+many_out() {
+    awk 'BEGIN { for (i = 0; i < 96; i++) printf "00110000000000%08x00000000%08x\n", i, i + 1; for (i = 96; i < 10000; i++) print "08" }'
+    printf '01'
+    repeat 62 96
+    repeat 61 4000
+    echo
+}
+run "full buffer" < <(many)
+same "full buffer" < <(many_out)
 
 # a mark that shifts carried past 1,000,000 is dropped by the next one: the row that it is on is cut away behind its back
 far() {
@@ -46,6 +77,9 @@ far() {
     for _ in $(seq 63); do printf '1500000000000000000000000000000000%s' 00003e80; repeat 61 16000; echo; done
     echo 10000000000000000062
 }
-expect "dropped" $'01\n03' < <(far | $run | tail -n 2 | sed 's/^01.*/01/')
+run "dropped" < <(far)
+tail -n 2 "$room/out" | sed 's/^01.*/01/' >"$room/end"
+mv "$room/end" "$room/out"
+same "dropped" <<<$'01\n03'
 
 echo "$passed passed, 0 failed"
