@@ -15,8 +15,8 @@ use Rattle.edit.specs.declared.Edit.the-variants.{InsertChar, InsertStr,
 use Rattle.edit.specs.Edits.{Whole, whole, edited, rowAt}
 use Rattle.edit.specs.Refusals.{fewOk}
 use Rattle.edit.specs.Call.{outcome, nextView}
-use Rattle.edit.specs.Runs.{Run, edits, stages}
-use Rattle.edit.specs.Demand3.{State, text, Beside, called, Undoable}
+use Rattle.edit.specs.Runs.{Run, stop, step, edits, stages}
+use Rattle.edit.specs.Demand3.{State, text, Beside, RecordRoom, called, Undoable}
 
 -- a text in a buffer of 16 places, with 7 in those behind it; slices of 8 and 4 places, full of 9
 abbrev pub opened : List ℕ → State
@@ -185,6 +185,10 @@ pub record RuledOut : Type 0 where
 
 -- ---- a run of every kind that demand 3 names
 
+-- the slices of `beside` are shorter than the named room, 16 places and 256; these are longer
+abbrev pub ample : Beside
+ample = record { cursor = at 9 9; changes = 18_446_744_073_709_551_615; payload = replicate 17 5; first = replicate 257 5; second = replicate 257 5 }
+
 abbrev pub sampleEdits : List (Whole ℕ)
 sampleEdits =
     plain (InsertStr (at 0 1)) (88 ∷ 10 ∷ [])
@@ -210,8 +214,19 @@ sampleTexts =
     ∷ (97 ∷ [])
     ∷ []
 
+abbrev pub sampleBesides : List Beside
+sampleBesides = beside ∷ ample ∷ beside ∷ ample ∷ beside ∷ ample ∷ beside ∷ ample ∷ []
+
+-- what each call was handed beside
+unfoldable pub besides : {s w : State} → Run Undoable s w → List Beside
+besides stop = []
+besides (step h r) = h .0 ∷ besides r
+
 pub record SampleRun : Type 0 where
   pub last : State
   pub run : Run Undoable (opened (97 ∷ 98 ∷ 10 ∷ 99 ∷ [])) last
   pub its-edits : edits run ≡ sampleEdits
+  pub its-besides : besides run ≡ sampleBesides
   pub its-texts : map text (stages run) ≡ sampleTexts
+  -- room to undo it with
+  pub room : RecordRoom last ample
