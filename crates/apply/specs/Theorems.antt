@@ -23,9 +23,10 @@ outcomeOf x = outcome (paperAnswer (x .answer)) (x .text) (x .payload) (x .first
 abbrev pub ExitSettled : Type 0
 ExitSettled = Settles outcomeOf
 
--- So the promise of `apply_edit` settles it: two exits that meet it for the same call are the same.
+-- what `apply_edit` promises holds of it
 abbrev pub Meets : Exit → View → Edit → Lent → Type 0
 Meets x v e l = Promised (x .answer) (x .text) (x .payload) (x .first) (x .second) v e l
 
+-- So that promise settles it: two exits that meet it for the same call are the same.
 abbrev pub ApplyEditSettled : Type 0
 ApplyEditSettled = (v : View) (e : Edit) (l : Lent) (x y : Exit) → Meets x v e l → Meets y v e l → x ≡ y

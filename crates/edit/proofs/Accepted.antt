@@ -28,7 +28,7 @@ holds n t = leb (length t) n && short t && all admissible t
 abbrev pub Ok : ℕ → List ℕ → Type 0
 Ok n t = T (holds n t)
 
--- every test passes but that for the record, which a text and an edit that pass the others cannot fail where demand 3's slices are lent (`inverse-fits`)
+-- every test passes but that for the record, which is never longer than demand 3's slices (`inverse-fits`)
 pub record Fine (n : ℕ) (t : List ℕ) (w : Whole ℕ) : Type 0 where
   pub textual : Ok n t
   pub smalls : T (smallOk (w .edit) (w .first) (w .second))

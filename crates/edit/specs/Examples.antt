@@ -183,11 +183,22 @@ pub record RuledOut : Type 0 where
       called (opened threeRows) (plain (JoinLines (rowAt 0) 1 false) []) (record { cursor = at 0 0; changes = 0; payload = []; first = replicate 4 9; second = [] })
       ≡ outcome (refused 9 0) (opened threeRows .buffer) [] (replicate 4 9) []
 
--- ---- a run of every kind that demand 3 names
+-- ---- the record room that document 01 names: 16 places here, and 256 in each list
 
--- the slices of `beside` are shorter than the named room, 16 places and 256; these are longer
+-- the slices of `beside` are shorter; these are longer
 abbrev pub ample : Beside
 ample = record { cursor = at 9 9; changes = 18_446_744_073_709_551_615; payload = replicate 17 5; first = replicate 257 5; second = replicate 257 5 }
+
+-- some inverses fill it, so no less would do: the lists of a block insert of 256 chunks, and the payload of a full buffer deleted
+pub record RoomFilled : Type 0 where
+  pub lists :
+      called (opened []) (whole (InsertBlock (at 0 0)) [] (replicate 256 0) []) ample .answer
+      ≡ done (record { view = record { used = 0; cursor = at 0 0; changes = 0 }; inverse = DeleteBlockChunks (at 0 0); payload = 0; first = 256; second = 256 })
+  pub payload :
+      called (opened (replicate 16 97)) (plain (DeleteRange (at 0 0) (at 0 0) Lines) []) ample .answer
+      ≡ done (record { view = record { used = 0; cursor = at 0 0; changes = 0 }; inverse = InsertStr (at 0 0); payload = 16; first = 0; second = 0 })
+
+-- ---- a run of every kind that demand 3 names
 
 abbrev pub sampleEdits : List (Whole ℕ)
 sampleEdits =

@@ -11,9 +11,10 @@ pub record ExitIn : Type 0 where
   pub exit : Exit
   pub view : View
 
--- The promise of `apply_edit_in` settles all of it.
+-- what `apply_edit_in` promises holds of it
 abbrev pub MeetsIn : ExitIn → View → Edit → Lent → Type 0
 MeetsIn x v e l = PromisedIn (x .exit .answer) (x .exit .text) (x .exit .payload) (x .exit .first) (x .exit .second) (x .view) v e l
 
+-- That promise settles all of it: two exits that meet it for the same call are the same.
 abbrev pub ApplyEditInSettled : Type 0
 ApplyEditInSettled = (v : View) (e : Edit) (l : Lent) (x y : ExitIn) → MeetsIn x v e l → MeetsIn y v e l → x ≡ y
