@@ -1,21 +1,25 @@
--- A run of calls is a run of what they promise, and back.
-use mathlib.Core.Path.{_≡_, sym, _∙_, ap, subst}
+-- Every call exists; and a run of calls is a run of what they promise, and back.
+use mathlib.Core.Path.{_≡_, sym, _∙_, ap}
 use mathlib.Core.List.{List, map, reverse}
-use mathlib.Core.Bool.{true}
 use Prim.Native.Nat.{ℕ}
-use native.Mathlib.Omega.{arith}
 use Rattle.promise.specs.Paper.{done}
 use Rattle.edit.specs.declared.Applied.{Applied}
 use Rattle.edit.specs.declared.Answer.{Answer}
 use Rattle.edit.specs.declared.Answer.the-variants.{Done, Refused}
 use Rattle.edit.specs.Edits.{Whole}
-use Rattle.edit.specs.Call.{paperAnswer, Outcome, undoable}
-use Rattle.edit.specs.Demand3.{State, text, Beside, viewAt, lentAt, called, after, returned, Accepted, Undoable}
-use Rattle.edit.proofs.Calls.{accepted-once, answer-fits}
+use Rattle.edit.specs.Call.{paperAnswer, Outcome}
+use Rattle.edit.specs.Demand3.{State, text, Beside, viewAt, lentAt, called, after, returned, AcceptedWith, Accepted, Undoable}
+use Rattle.edit.proofs.Calls.{promise-met}
 use Rattle.edit.proofs.Demand3.{demand3}
 use Rattle.edit.proofs.Undo.{alike}
 use Rattle.view.specs.Answers.{paperUndoable}
-use Rattle.apply.specs.Demand3.{Call, left, handed, AcceptedCalls, UndoableCall, CodeDemand3}
+use Rattle.apply.specs.Demand3.{Call, CallsExist, left, handed, AcceptedCall, AcceptedCalls, UndoableCall, CodeDemand3}
+
+pub calls-exist : CallsExist
+calls-exist s w o =
+    let c = called s w o in
+    let r = promise-met (viewAt s o) (w .edit) (lentAt s w o) in
+    record { answer = r .0; text = c .text; payload = c .payload; first = c .first; second = c .second; promise = r .1 }
 
 -- an answer that is done on paper was done
 was-done : (r : Answer) (a : Applied) → paperAnswer r ≡ done a → r ≡ Done a
@@ -32,23 +36,19 @@ module _ {s : State} {w : Whole ℕ} {o : Beside} (c : Call s w o) where
   same-handed : (a : Applied) → returned a (called s w o) ≡ handed a c
   same-handed a = rw (← c .promise)
 
+  called-with : (u : State) (i : Whole ℕ) → AcceptedCall c u i → AcceptedWith o s w u i
+  called-with u i h = (h .0, same-answer ∙ ap paperAnswer (h .1), same-left (h .0) ∙ h .2, same-handed (h .0) ∙ h .3)
+
+  pub with-call : (u : State) (i : Whole ℕ) → AcceptedWith o s w u i → AcceptedCall c u i
+  with-call u i h = (h .0, was-done (c .answer) (h .0) (sym same-answer ∙ h .1), sym (same-left (h .0)) ∙ h .2, sym (same-handed (h .0)) ∙ h .3)
+
 from-call : (s : State) (w : Whole ℕ) (u : State) (i : Whole ℕ) → UndoableCall s w u i → Undoable s w u i
-unfolding undoable
 from-call s w u i h =
     let o = h .beside in
-    let a = h .done in
-    let e : called s w o .answer ≡ done a = same-answer (h .call) ∙ ap paperAnswer (h .accepted) in
-    let f = answer-fits s w o a e in
-    let k = accepted-once s w o a e (omega (arith, f .0, h .payload-room)) (omega (arith, f .1, h .first-room)) (omega (arith, f .2, h .second-room)) in
-    let y : undoable (viewAt s o) (w .edit) (lentAt s w o) ≡ done true = sym (h .promise) ∙ ap paperUndoable (h .yes) in (
-      subst (λ (v : State). Accepted s w v i) (same-left (h .call) a ∙ h .leaves) (subst (λ (j : Whole ℕ). Accepted s w (after a (called s w o)) j) (same-handed (h .call) a ∙ h .hands) k),
-      λ b. y,
-    )
+    (o, called-with (h .call) u i (h .accepted), sym (h .promise (o .payload) (o .first) (o .second)) ∙ ap paperUndoable (h .yes))
 
 to-call : (s : State) (w : Whole ℕ) (u : State) (i : Whole ℕ) → Accepted s w u i → AcceptedCalls s w u i
-to-call s w u i h o room c =
-    let a = h o room in
-    (a .0, was-done (c .answer) (a .0) (sym (same-answer c) ∙ a .1), sym (same-left c (a .0)) ∙ a .2, sym (same-handed c (a .0)) ∙ a .3)
+to-call s w u i h o room c = with-call c u i (h o room)
 
 pub code-demand3 : CodeDemand3
 code-demand3 s w r =

@@ -17,7 +17,7 @@ use joins::join;
 use joins::split;
 ghost use mathlib.Core.Path.{_≡_};
 ghost use Rattle.promise.specs.Paper.{done};
-ghost use Rattle.edit.specs.Call.{paperAnswer, verdictOf, outcome, lent, givenTests, applied};
+ghost use Rattle.edit.specs.Call.{verdictOf, lent, givenTests, Promised};
 
 // The edit done, once rows 1 to 4 are known not to refuse it. The slices are those of `apply_edit`.
 pub fn apply_judged(
@@ -32,7 +32,7 @@ pub fn apply_judged(
     outsecond: &mut [u32],
 ) -> Answer
     requires { ⌜ verdictOf (givenTests view edit (lent (now text) (now payload) (now first) (now second) (now outpayload) (now outfirst) (now outsecond))) ≡ done tt ⌝ }
-    ensures { λ r. ⌜ outcome (paperAnswer r) (now (text .exit)) (now (outpayload .exit)) (now (outfirst .exit)) (now (outsecond .exit)) ≡ applied view edit (lent (now (text .entry)) (now (payload .entry)) (now (first .entry)) (now (second .entry)) (now (outpayload .entry)) (now (outfirst .entry)) (now (outsecond .entry))) ⌝ }
+    ensures { λ r. ⌜ Promised r (now (text .exit)) (now (outpayload .exit)) (now (outfirst .exit)) (now (outsecond .exit)) view edit (lent (now (text .entry)) (now (payload .entry)) (now (first .entry)) (now (second .entry)) (now (outpayload .entry)) (now (outfirst .entry)) (now (outsecond .entry))) ⌝ }
 {
     let room = Room {
         buffer: text.len(),
@@ -78,7 +78,7 @@ pub fn apply_edit(
     outfirst: &mut [u32],
     outsecond: &mut [u32],
 ) -> Answer
-    ensures { λ r. ⌜ outcome (paperAnswer r) (now (text .exit)) (now (outpayload .exit)) (now (outfirst .exit)) (now (outsecond .exit)) ≡ applied view edit (lent (now (text .entry)) (now (payload .entry)) (now (first .entry)) (now (second .entry)) (now (outpayload .entry)) (now (outfirst .entry)) (now (outsecond .entry))) ⌝ }
+    ensures { λ r. ⌜ Promised r (now (text .exit)) (now (outpayload .exit)) (now (outfirst .exit)) (now (outsecond .exit)) view edit (lent (now (text .entry)) (now (payload .entry)) (now (first .entry)) (now (second .entry)) (now (outpayload .entry)) (now (outfirst .entry)) (now (outsecond .entry))) ⌝ }
 {
     let verdict = judge(text, view, edit, payload, first, second);
     if let Verdict::Bad(why) = verdict {

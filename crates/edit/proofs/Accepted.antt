@@ -28,7 +28,7 @@ holds n t = leb (length t) n && short t && all admissible t
 abbrev pub Ok : ℕ → List ℕ → Type 0
 Ok n t = T (holds n t)
 
--- every test passes
+-- every test passes but that for the record, which is never longer than demand 3's slices (`inverse-fits`)
 pub record Fine (n : ℕ) (t : List ℕ) (w : Whole ℕ) : Type 0 where
   pub textual : Ok n t
   pub smalls : T (smallOk (w .edit) (w .first) (w .second))
@@ -36,7 +36,6 @@ pub record Fine (n : ℕ) (t : List ℕ) (w : Whole ℕ) : Type 0 where
   pub payloads : T (payloadOk (w .edit) (w .payload) (w .first))
   pub withins : T (withinOk t (w .edit) (w .first) (w .second))
   pub rooms : T (roomOk (full n) (doing w t .text))
-  pub records : T (recordOk (full n) (doing w t .inverse))
 
 -- edit w is accepted at text t, and gives text u and inverse i
 pub record Step (n : ℕ) (t : List ℕ) (w : Whole ℕ) (u : List ℕ) (i : Whole ℕ) : Type 0 where

@@ -18,11 +18,11 @@ use Rattle.text.proofs.Laws.{unlines-lines}
 use Rattle.edit.specs.declared.MotionKind.the-variants.{Block}
 use Rattle.edit.specs.declared.Edit.the-variants.{DeleteRange, InsertBlock, DeleteBlockChunks}
 use Rattle.edit.specs.Edits.{Whole, whole, Edited, edited, fromRow, put, putAll, padsOf, pieces, cutAll, chunksOf, blockInserted, chunksDeleted, corner, height, breadth, rangeDeleted, editedBy}
-use Rattle.edit.specs.Refusals.{isSpace, spaces, sum, small, smallPosition, smallRange, smallOk, few, short, fewRows, fewOk, payloadOk, withinOk, roomOk, recordOk, wide}
+use Rattle.edit.specs.Refusals.{isSpace, spaces, sum, small, smallPosition, smallRange, smallOk, few, short, fewRows, fewOk, payloadOk, withinOk, roomOk, wide}
 use Rattle.edit.specs.Call.{rangeUndoable}
 use Rattle.promise.proofs.Bools.{T-true, T-both, T-left, T-right}
 use Rattle.text.proofs.Alls.{all-append, all-left, all-right, all-take, all-drop}
-use Rattle.edit.proofs.Accepted.{full, Ok, Fine, Step, Back, ok-room, ok-fits, ok-short, ok-admissible, ok-both}
+use Rattle.edit.proofs.Accepted.{full, Ok, Fine, Step, Back, ok-room, ok-short, ok-admissible, ok-both}
 use Rattle.text.proofs.Ended.{notLF, Plain, Ended, final, ended, lines-ended, lines-unlines}
 
 -- ---- one row
@@ -363,7 +363,7 @@ module _ (n : ℕ) (t : List ℕ) (h : Ok n t) (p : Position) (at-small : T (sma
   step-put : (ks : Chunks) → length ks ≤ 256 → length (flatten ks) ≤ 16384 → T (all admissible (flatten ks)) → Plain (flatten ks) → (u : List ℕ)
       → fromRow (lines isLF t) (p .row .0) (putAll 32 (p .col .0) ks below) ≡ u → T (roomOk (full n) u)
       → Step n t (whole (InsertBlock p) (flatten ks) (map length ks) []) u (whole (DeleteBlockChunks p) [] (map length ks) (padsOf (p .col .0) ks below))
-  unfolding editedBy smallOk fewOk payloadOk withinOk recordOk
+  unfolding editedBy smallOk fewOk payloadOk withinOk
   step-put ks a b c d u e r =
       let i : Whole ℕ = whole (DeleteBlockChunks p) [] (map length ks) (padsOf (p .col .0) ks below) in
       let q : blockInserted isLF isSpace spaces t p (flatten ks) (map length ks) ≡ edited u i (clamp isLF u p) = done-put ks u e in
@@ -375,7 +375,6 @@ module _ (n : ℕ) (t : List ℕ) (h : Ok n t) (p : Position) (at-small : T (sma
           payloads = rw (T-true (all admissible (flatten ks)) c, T-true (all notLF (flatten ks)) d, eq-eqb (sum (map length ks)) (length (flatten ks)) (sum-lengths ks)) tt;
           withins = tt;
           rooms = rw q r;
-          records = rw (q, length-map ks length, padsOf-length (p .col .0) ks below, le-leb 0 n (omega arith), le-leb (length ks) 256 a) tt;
         };
         text = ap (λ (o : Edited ℕ). o .text) q;
         inverse = ap (λ (o : Edited ℕ). o .inverse) q;
@@ -384,7 +383,7 @@ module _ (n : ℕ) (t : List ℕ) (h : Ok n t) (p : Position) (at-small : T (sma
   step-cut : (ws ds : List ℕ) → T (all small ws) → T (all small ds) → length ws ≤ 256 → length ds ≤ 256 → (u : List ℕ)
       → fromRow (lines isLF t) (p .row .0) (cutAll (p .col .0) ws ds below) ≡ u → T (roomOk (full n) u)
       → Step n t (whole (DeleteBlockChunks p) [] ws ds) u (whole (InsertBlock p) (flatten (chunksOf (p .col .0) ws below)) (map length (chunksOf (p .col .0) ws below)) [])
-  unfolding editedBy smallOk fewOk payloadOk withinOk recordOk
+  unfolding editedBy smallOk fewOk payloadOk withinOk
   step-cut ws ds a b c d u e r =
       let ks = chunksOf (p .col .0) ws below in
       let i : Whole ℕ = whole (InsertBlock p) (flatten ks) (map length ks) [] in
@@ -397,7 +396,6 @@ module _ (n : ℕ) (t : List ℕ) (h : Ok n t) (p : Position) (at-small : T (sma
           payloads = tt;
           withins = tt;
           rooms = rw q r;
-          records = rw (q, length-map ks length, chunksOf-length (p .col .0) ws below, le-leb (length ws) 256 c, le-leb (length (flatten ks)) n (omega (arith, chunks-le t (p .col .0) (p .row .0) ws, ok-fits n t h))) tt;
         };
         text = ap (λ (o : Edited ℕ). o .text) q;
         inverse = ap (λ (o : Edited ℕ). o .inverse) q;

@@ -5,25 +5,28 @@ use mathlib.Core.List.{List, [], _∷_, _++_}
 use Prim.Native.Nat.{ℕ, _≤_, _<_}
 use native.Mathlib.Omega.{arith}
 use lib.Dec.{T, leb, leb→le}
-use lib.ListN.{length, take, drop, replicate, length-append, length-drop, length-replicate}
+use lib.ListN.{length, take, drop, length-append, length-take, length-drop}
 use lib.Seq.{take-append-seam, length-take-le}
 use Rattle.promise.specs.Paper.{Paper, done, refused}
 use Rattle.promise.specs.Slices.{over}
-use Rattle.text.specs.Rows.{at}
 use Rattle.text.specs.Text.{admissible, textOk, renewed, all}
 use Rattle.text.proofs.Renewed.{renewed-text, renewed-length}
 use Rattle.edit.specs.declared.View.{View}
+use Rattle.edit.specs.declared.Edit.{Edit}
 use Rattle.edit.specs.declared.Refusal.{Refusal}
 use Rattle.edit.specs.declared.Refusal.the-variants.{BadText, TooBig, TooMany, BadPayload, BadUtf8, Reversed, BeyondRow, NoRoom, NoRecord, BadFrame}
 use Rattle.edit.specs.declared.Room.{Room}
 use Rattle.edit.specs.declared.Applied.{Applied}
+use Rattle.edit.specs.declared.Answer.{Answer}
+use Rattle.edit.specs.declared.Answer.the-variants.{Done, Refused}
 use Rattle.edit.specs.Edits.{Whole, whole, Edited}
 use Rattle.edit.specs.Refusals.{short, smallOk, fewOk, payloadOk, withinOk, roomOk, recordOk}
-use Rattle.edit.specs.Call.{numberOf, offsetOf, firstOf, Lent, Outcome, outcome, resultOf, roomOf, givenTests, resultTests, appliedAs, leaves, applied, isUndoable, undoable}
-use Rattle.edit.specs.Demand3.{State, text, Beside, viewAt, lentAt, called, after, returned, Accepted, AcceptedOnce}
-use Rattle.edit.specs.Theorems.{SameLengths, LengthsKept}
+use Rattle.edit.specs.Call.{numberOf, offsetOf, paperAnswer, firstOf, Lent, Outcome, outcome, textOf, resultOf, roomOf, givenTests, resultTests, appliedAs, leaves, applied, Promised, isUndoable, undoable}
+use Rattle.edit.specs.Demand3.{State, text, Beside, viewAt, lentAt, called, after, returned, AcceptedWith, Accepted, AcceptedOnce}
+use Rattle.edit.specs.Theorems.{SameLengths, LengthsKept, InverseFits, NamedRoomSuffices}
 use Rattle.promise.proofs.Bools.{T-true, T-left}
 use Rattle.edit.proofs.Accepted.{doing, full, holds, Fine, Step, record-room, record-fits}
+use Rattle.edit.proofs.Fits.{inverse-fits}
 
 -- ---- a list of tests
 
@@ -36,6 +39,18 @@ passed false r xs z a e =
     let z : true ≡ false = cc in
     (subst T z tt, cc)
 
+-- so it did where the refusal is another's
+passed-by : {A : Type 0} (b : Bool) (r : Refusal) (xs : List (Bool × Refusal)) (z : Paper A) (n k : ℕ) → (numberOf r ≡ n → ⊥) → firstOf ((not b, r) ∷ xs) z ≡ refused n k → T b × (firstOf xs z ≡ refused n k)
+unfolding firstOf
+passed-by true r xs z n k h e = (tt, e)
+passed-by false r xs z n k h e = let q : numberOf r ≡ n = cc in absurd (h q)
+
+-- and where all passed, nothing refuses
+all-passed : {A : Type 0} (b : Bool) (r : Refusal) (a : A) (n k : ℕ) → T b → firstOf ((not b, r) ∷ []) (done a) ≡ refused n k → ⊥
+unfolding firstOf
+all-passed true r a n k h e = let z : _≡_ {A = ℕ} 0 1 = cc in omega arith
+all-passed false r a n k h e = h
+
 none-left : {A : Type 0} (z y : Paper A) → firstOf [] z ≡ y → z ≡ y
 unfolding firstOf
 none-left z y e = e
@@ -44,6 +59,26 @@ pub leaves-answer : (p : Paper Applied) (v : View) (l : Lent) (d : Edited ℕ) �
 unfolding leaves
 leaves-answer (done a) v l d = refl
 leaves-answer (refused n k) v l d = refl
+
+-- what is done or refused on paper is so in an answer: the promise can be met, whatever the call
+first-answered : (xs : List (Bool × Refusal)) (a : Applied) → (r : Answer) × (paperAnswer r ≡ firstOf xs (done a))
+unfolding firstOf
+first-answered [] a = (Done a, refl)
+first-answered (x ∷ xs) a = go (x .0) (first-answered xs a)
+  where
+    go : (b : Bool) → (r : Answer) × (paperAnswer r ≡ firstOf xs (done a))
+        → (r : Answer) × (paperAnswer r ≡ cond {A = Paper Applied} b (refused (numberOf (x .1)) (offsetOf (x .1))) (firstOf xs (done a)))
+    go true h = (Refused (x .1), refl)
+    go false h = h
+
+pub promise-met : (v : View) (e : Edit) (l : Lent)
+    → (r : Answer) × Promised r (applied v e l .text) (applied v e l .payload) (applied v e l .first) (applied v e l .second) v e l
+unfolding applied
+promise-met v e l =
+    let d = resultOf v e l in
+    let c = applied v e l in
+    let f = first-answered (givenTests v e l ++ resultTests (withinOk (textOf v l) e (l .first) (l .second)) (roomOf l) d) (appliedAs v d) in
+    (f .0, ap (λ (p : Paper Applied). outcome p (c .text) (c .payload) (c .first) (c .second)) (f .1 ∙ sym (leaves-answer _ v l d)))
 
 -- a refusal has a number, and it is not 0
 numbered : (r : Refusal) → 0 < numberOf r
@@ -80,10 +115,6 @@ text-used b used h = leb→le used (length b) (T-left (leb used (length b)) (leb
 room-same : (n : ℕ) (R : Room) (u : List ℕ) → R .buffer ≡ n → T (roomOk (full n) u) → T (roomOk R u)
 unfolding roomOk
 room-same n R u e h = rw e h
-
--- more room serves too
-record-more : (n : ℕ) (R : Room) (i : Whole ℕ) → n ≤ R .payload → 256 ≤ R .first → 256 ≤ R .second → T (recordOk (full n) i) → T (recordOk R i)
-record-more n R i p f s h = let k = record-fits (full n) i h in record-room R i (omega (arith, k .0)) (omega (arith, k .1)) (omega (arith, k .2))
 
 -- ---- one call
 
@@ -148,11 +179,17 @@ module _ (s : State) (w : Whole ℕ) (o : Beside) where
   first-answer p e =
       sym (leaves-answer (firstOf (givenTests (viewAt s o) (w .edit) l ++ resultTests (withinOk (text s) (w .edit) (w .first) (w .second)) (roomOf l) (resultOf (viewAt s o) (w .edit) l)) (done (appliedAs (viewAt s o) (resultOf (viewAt s o) (w .edit) l)))) (viewAt s o) l (resultOf (viewAt s o) (w .edit) l)) ∙ e
 
+  -- the named room holds every inverse, and so does more
+  recorded : T (fewOk (text s) (w .edit) (w .payload) (w .first) (w .second)) → length (s .buffer) ≤ length (o .payload) → 256 ≤ length (o .first) → 256 ≤ length (o .second) → Recorded
+  recorded h x f g =
+      let i = inverse-fits (text s) (w .edit) (w .payload) (w .first) (w .second) h in
+      record-room (roomOf l) (d .inverse) (omega (arith, i .0, length-take (s .used) (s .buffer))) (omega (arith, i .1)) (omega (arith, i .2))
+
   -- what an accepted call shows
   record Tested (a : Applied) : Type 0 where
     within : s .used ≤ length (s .buffer)
     recorded : Recorded
-    fine : T (recordOk (full (length (s .buffer))) (d .inverse)) → Fine (length (s .buffer)) (text s) w
+    fine : Fine (length (s .buffer)) (text s) w
     answer : a ≡ appliedAs (viewAt s o) d
     fits : length (d .text) ≤ length (s .buffer)
     call : called s w o ≡ leaves (done a) (viewAt s o) l d
@@ -173,14 +210,13 @@ module _ (s : State) (w : Whole ℕ) (o : Beside) where
       record {
         within = h;
         recorded = t9 .0;
-        fine = λ r. record {
+        fine = record {
           textual = subst T (sym (text-holds (s .buffer) (s .used) h)) (t1 .0);
           smalls = t2 .0;
           fews = t3 .0;
           payloads = t4 .0;
           withins = t7 .0;
           rooms = t8 .0;
-          records = r;
         };
         answer = cc;
         fits = leb→le (length (d .text)) (length (s .buffer)) (T-left (leb (length (d .text)) (length (s .buffer))) (short (d .text)) (t8 .0));
@@ -214,6 +250,30 @@ lengths-kept v e l =
     let o : Beside = record { cursor = v .cursor; changes = v .changes; payload = l .outPayload; first = l .outFirst; second = l .outSecond } in
     kept s w o (called s w o .answer) refl
 
+pub inverse-fits-room : InverseFits
+inverse-fits-room v e l a h =
+    let s : State = record { used = v .used; buffer = l .buffer } in
+    let w : Whole ℕ = whole e (l .payload) (l .first) (l .second) in
+    let o : Beside = record { cursor = v .cursor; changes = v .changes; payload = l .outPayload; first = l .outFirst; second = l .outSecond } in
+    let x = tested s w o a h in
+    let f = inverse-fits (text s) e (l .payload) (l .first) (l .second) (x .fine .fews) in
+    rw (x .answer) (record { payload = omega (arith, f .0, length-take (v .used) (l .buffer)); used = x .within; first = f .1; second = f .2 })
+
+pub named-room-suffices : NamedRoomSuffices
+unfolding resultOf
+named-room-suffices v e l k x f g h =
+    let s : State = record { used = v .used; buffer = l .buffer } in
+    let w : Whole ℕ = whole e (l .payload) (l .first) (l .second) in
+    let o : Beside = record { cursor = v .cursor; changes = v .changes; payload = l .outPayload; first = l .outFirst; second = l .outSecond } in
+    let d : Edited ℕ = doing w (text s) in
+    let t1 = passed-by (textOk (s .buffer) (s .used)) BadText _ _ 9 k (λ q. omega arith) (first-answer s w o (refused 9 k) h) in
+    let t2 = passed-by (smallOk e (l .first) (l .second)) TooBig _ _ 9 k (λ q. omega arith) (t1 .1) in
+    let t3 = passed-by (fewOk (text s) e (l .payload) (l .first) (l .second)) TooMany _ _ 9 k (λ q. omega arith) (t2 .1) in
+    let t4 = passed-by (payloadOk e (l .payload) (l .first)) BadPayload _ _ 9 k (λ q. omega arith) (t3 .1) in
+    let t7 = passed-by (withinOk (text s) e (l .first) (l .second)) BeyondRow _ _ 9 k (λ q. omega arith) (t4 .1) in
+    let t8 = passed-by (roomOk (roomOf l) (d .text)) NoRoom _ _ 9 k (λ q. omega arith) (t7 .1) in
+    all-passed (recordOk (roomOf l) (d .inverse)) NoRecord _ 9 k (recorded s w o (t3 .0) x f g) (t8 .1)
+
 -- an edit of the text is an edit by call, whatever the slices hold
 pub step-accepted : (n : ℕ) (s : State) (w : Whole ℕ) (u : List ℕ) (i : Whole ℕ) → Held n s → Step n (text s) w u i → Accepted s w (next s w) i
 step-accepted n s w u i k h o room =
@@ -221,7 +281,7 @@ step-accepted n s w u i k h o room =
     let e : length (s .buffer) ≡ n = k .long in
     let f : Fine (length (s .buffer)) (text s) w = rw e (h .fine) in
     let b : s .used ≤ length (s .buffer) = omega (arith, k .within) in
-    let r = record-more (length (s .buffer)) (roomOf (lentAt s w o)) (d .inverse) (room .payload) (room .first) (room .second) (f .records) in
+    let r = recorded s w o (f .fews) (room .payload) (room .first) (room .second) in
     let x = fine-leaves s w o b f r in
     (appliedAs (viewAt s o) d, ap (λ (r : Outcome). r .answer) (fine-called s w o b f r), x .0, x .1 ∙ h .inverse)
 
@@ -236,7 +296,7 @@ next-held n s w k f =
     let h : length u ≤ n = leb→le (length u) n (T-left (leb (length u) n) (short u) (f .rooms)) in
     record { long = renewed-length (s .buffer) (s .used) u (omega (arith, k .long, k .within)) (omega (arith, k .long)) ∙ k .long; within = h }
 
--- and an edit accepted by call, with an inverse that the named room holds, is one of the text
+-- and an edit accepted by call is one of the text
 pub record Called (s : State) (w : Whole ℕ) (u : State) (i : Whole ℕ) : Type 0 where
   pub before : Held (length (s .buffer)) s
   pub fine : Fine (length (s .buffer)) (text s) w
@@ -250,50 +310,26 @@ called-accepted s w u i c =
     let h : Accepted s w (next s w) (d .inverse) = step-accepted n s w (d .text) (d .inverse) (c .before) (record { fine = c .fine; text = refl; inverse = refl }) in
     subst (λ (v : State). Accepted s w v i) (sym (c .state)) (subst (λ (j : Whole ℕ). Accepted s w (next s w) j) (sym (c .inverse)) h)
 
-once-called : (s : State) (w : Whole ℕ) (o : Beside) (a : Applied) → called s w o .answer ≡ done a → T (recordOk (full (length (s .buffer))) (doing w (text s) .inverse))
-    → Called s w (after a (called s w o)) (returned a (called s w o))
-once-called s w o a e r =
+pub once-called : (s : State) (w : Whole ℕ) (o : Beside) (a : Applied) → called s w o .answer ≡ done a → Called s w (after a (called s w o)) (returned a (called s w o))
+once-called s w o a e =
     let x = tested s w o a e in
-    let y = fine-leaves s w o (x .within) (x .fine r) (x .recorded) in
+    let y = fine-leaves s w o (x .within) (x .fine) (x .recorded) in
     record {
       before = record { long = refl; within = x .within };
-      fine = x .fine r;
+      fine = x .fine;
       state = ap (λ (b : Applied). after b (called s w o)) (x .answer) ∙ y .0;
       inverse = ap (λ (b : Applied). returned b (called s w o)) (x .answer) ∙ y .1;
     }
 
+pub with-called : (o : Beside) (s : State) (w : Whole ℕ) (u : State) (i : Whole ℕ) → AcceptedWith o s w u i → Called s w u i
+with-called o s w u i h =
+    subst (λ (v : State). Called s w v i) (h .2) (subst (λ (j : Whole ℕ). Called s w (after (h .0) (called s w o)) j) (h .3) (once-called s w o (h .0) (h .1)))
+
 pub accepted-once : AcceptedOnce
-accepted-once s w o a e p f g =
-    let i : Whole ℕ = doing w (text s) .inverse in
-    let q = tested s w o a e .answer in
-    let lp : a .payload ≡ length (i .payload) = ap (λ (b : Applied). b .payload) q in
-    let lf : a .first ≡ length (i .first) = ap (λ (b : Applied). b .first) q in
-    let ls : a .second ≡ length (i .second) = ap (λ (b : Applied). b .second) q in
-    called-accepted s w (after a (called s w o)) (returned a (called s w o))
-    (once-called s w o a e (record-room (full (length (s .buffer))) i (omega arith) (omega arith) (omega arith)))
+accepted-once o s w u i h = called-accepted s w u i (with-called o s w u i h)
 
 pub refused-number : (s : State) (w : Whole ℕ) (o : Beside) (n k : ℕ) → called s w o .answer ≡ refused n k → 0 < n
 refused-number s w o n k e = first-number _ _ n k (first-answer s w o (refused n k) e)
-
--- the inverse that an accepted call hands back is within the slices lent for it
-pub answer-fits : (s : State) (w : Whole ℕ) (o : Beside) (a : Applied) → called s w o .answer ≡ done a
-    → (a .payload ≤ length (o .payload)) × (a .first ≤ length (o .first)) × (a .second ≤ length (o .second))
-answer-fits s w o a e =
-    let x = tested s w o a e in
-    rw (x .answer) (record-fits (roomOf (lentAt s w o)) (doing w (text s) .inverse) (x .recorded))
-
-abbrev pub exact : State → Beside
-exact s = record { cursor = at 0 0; changes = 0; payload = replicate (length (s .buffer)) 0; first = replicate 256 0; second = replicate 256 0 }
-
-pub accepted-called : (s : State) (w : Whole ℕ) (u : State) (i : Whole ℕ) → Accepted s w u i → Called s w u i
-unfolding recordOk
-accepted-called s w u i h =
-    let o = exact s in
-    let p : length (o .payload) ≡ length (s .buffer) = length-replicate {A = ℕ} (length (s .buffer)) 0 in
-    let l : length (o .first) ≡ 256 = length-replicate {A = ℕ} 256 0 in
-    let a = h o (record { payload = omega (arith, p); first = omega (arith, l); second = omega (arith, l) }) in
-    let r = rw (p, l) at (tested s w o (a .0) (a .1) .recorded) in
-    subst (λ (v : State). Called s w v i) (a .2) (subst (λ (j : Whole ℕ). Called s w (after (a .0) (called s w o)) j) (a .3) (once-called s w o (a .0) (a .1) r))
 
 -- `undoable` says yes only where the kind and its conditions are those of demand 3
 pub said-undoable : (s : State) (w : Whole ℕ) (o : Beside) → undoable (viewAt s o) (w .edit) (lentAt s w o) ≡ done true → T (isUndoable (text s) (w .edit))

@@ -7,7 +7,7 @@ use Rattle.edit.specs.Edits.{Whole}
 use Rattle.edit.specs.Runs.{Run, stop, step, edits, inverses, stages}
 use Rattle.edit.specs.Demand3.{State, text, Accepted, Undoable, Undone, Demand3}
 use Rattle.edit.proofs.Accepted.{Ok, Step}
-use Rattle.edit.proofs.Calls.{Held, next, step-accepted, next-text, next-held, Called, accepted-called, said-undoable, exact}
+use Rattle.edit.proofs.Calls.{Held, next, step-accepted, next-text, next-held, Called, with-called, said-undoable}
 use Rattle.edit.proofs.Undo.{Good, undone-texts}
 
 -- ---- calls carry out a run of edits of texts
@@ -56,12 +56,12 @@ read : (n : ℕ) {s u : State} (r : Run Undoable s u) → Held n s → Read n r
 unfolding inverses stages
 read n stop k = record { held = k; run = stop; same-inverses = refl; same-texts = refl }
 read n (step {s = s} {u = u} {e = w} {i = i} h r) k =
-    let c = accepted-called s w u i (h .0) in
+    let c = with-called (h .0) s w u i (h .1) in
     let g = called-step n (k .long) c in
     let d = read n r (g .0) in
     record {
       held = d .held;
-      run = step (g .1, said-undoable s w (exact s) (h .1 (exact s))) (d .run);
+      run = step (g .1, said-undoable s w (h .0) (h .2)) (d .run);
       same-inverses = ap {B = List (Whole ℕ)} (λ l. i ∷ l) (d .same-inverses);
       same-texts = ap {B = List (List ℕ)} (λ l. text s ∷ l) (d .same-texts);
     }
@@ -114,4 +114,4 @@ run-ok n r k h = starts-ok n (undone-texts n (read n r k .run) .back) h
 pub demand3 : Demand3
 unfolding edits inverses stages
 demand3 s u stop = record { origin = s; back = stop; back-edits = refl; back-texts = refl; final = s; again = stop; again-edits = refl; again-texts = refl }
-demand3 s u (step {u = v} {e = w} {i = i} h r) = held-undone (length (s .buffer)) (step h r) (accepted-called s w v i (h .0) .before)
+demand3 s u (step {u = v} {e = w} {i = i} h r) = held-undone (length (s .buffer)) (step h r) (with-called (h .0) s w v i (h .1) .before)

@@ -10,12 +10,14 @@ use Rattle.text.specs.Rows.{onto, lines, unlines, rowCount, lastRow, rowLen, ro
 use Rattle.text.specs.Text.{admissible, all, textOk, renewed}
 use Rattle.edit.specs.Edits.{inserted, charsDeleted, lineFrom, lineTo, linesDeleted, replaced, gap, joinRow, joinCols, joinFlags, put, putAll, padsOf, pieces, cutAll, chunksOf, anyFlag, joined, unspace, splitFirst, splitRow, split, blockInserted, chunksDeleted, rangeDeleted, editedBy, Whole}
 use Rattle.edit.specs.Refusals.{sum, smallRange, smallOk, fewRows, fewOk, payloadOk, withinFirst, withinAll, withinOk, roomOk, recordOk, wide}
-use Rattle.edit.specs.Call.{firstOf, resultOf, leaves, applied, rangeUndoable, isUndoable, undoable}
+use Rattle.edit.specs.declared.Applied.{Applied}
+use Rattle.edit.specs.Call.{firstOf, resultOf, appliedAs, leaves, applied, rangeUndoable, isUndoable, undoable}
 use Rattle.edit.specs.Runs.{Run, stop, step, edits, stages}
-use Rattle.edit.specs.Demand3.{State, text, Beside, viewAt, lentAt, Undoable}
-use Rattle.edit.specs.Examples.{opened, FurtherExamples, FirstRefusals, RuledOut, sampleEdits, sampleTexts, SampleRun}
-use Rattle.edit.proofs.Accepted.{holds, doing, Fine}
-use Rattle.edit.proofs.Calls.{Held, next, step-accepted, next-held}
+use Rattle.edit.specs.Demand3.{State, text, Beside, viewAt, lentAt, called, Undoable}
+use Rattle.edit.specs.Examples.{opened, FurtherExamples, FirstRefusals, RuledOut, RoomFilled, sampleEdits, sampleTexts, sampleBesides, besides, SampleRun}
+use Rattle.edit.proofs.Accepted.{doing}
+use Rattle.edit.proofs.Calls.{next, once-called}
+use Rattle.edit.proofs.Demand3.{run-held}
 
 pub further-examples : FurtherExamples
 unfolding onto lines unlines rowCount lastRow rowLen rowStart clamp offset endOf inText admissible all textOk renewed scalar flatten inserted charsDeleted lineFrom lineTo linesDeleted replaced gap joinRow joinCols joinFlags put putAll padsOf pieces cutAll chunksOf anyFlag joined unspace splitFirst splitRow split blockInserted chunksDeleted rangeDeleted editedBy sum smallRange smallOk fewRows fewOk payloadOk withinFirst withinAll withinOk roomOk recordOk wide firstOf resultOf leaves applied rangeUndoable isUndoable undoable
@@ -44,7 +46,11 @@ pub ruled-out : RuledOut
 unfolding onto lines unlines rowCount lastRow rowLen rowStart clamp offset endOf inText admissible all textOk renewed scalar flatten inserted charsDeleted lineFrom lineTo linesDeleted replaced gap joinRow joinCols joinFlags put putAll padsOf pieces cutAll chunksOf anyFlag joined unspace splitFirst splitRow split blockInserted chunksDeleted rangeDeleted editedBy sum smallRange smallOk fewRows fewOk payloadOk withinFirst withinAll withinOk roomOk recordOk wide firstOf resultOf leaves applied rangeUndoable isUndoable undoable
 ruled-out = record { insert-in = refl; cut = refl; cut-crossed = refl; cut-short = refl; cut-long = refl; lines-up = refl; join-empty = refl; split-above = refl; split-space = refl; block-absent = refl; block-past = refl; block-below = refl; block-rows = refl; block-above = refl; chunk-absent = refl; chunk-above = refl; block-cut = refl; block-corner = refl; big-flag = refl; big-end = refl; many-flags = refl; many-joins = refl; rows-down = refl; rows-up = refl; two-characters = refl; lengths = refl; break-first = refl; replace-bad = refl; no-second = refl }
 
--- ---- the sample: every test of each edit is computed at the state that the edits before it leave
+pub room-filled : RoomFilled
+unfolding onto lines unlines rowCount lastRow rowLen rowStart clamp offset endOf inText admissible all textOk renewed scalar flatten inserted charsDeleted lineFrom lineTo linesDeleted replaced gap joinRow joinCols joinFlags put putAll padsOf pieces cutAll chunksOf anyFlag joined unspace splitFirst splitRow split blockInserted chunksDeleted rangeDeleted editedBy sum smallRange smallOk fewRows fewOk payloadOk withinFirst withinAll withinOk roomOk recordOk wide firstOf resultOf leaves applied rangeUndoable isUndoable undoable
+room-filled = record { lists = refl; payload = refl }
+
+-- ---- the sample: each edit's answer is computed at the state that the edits before it leave
 
 statesFrom : State → List (Whole ℕ) → List State
 statesFrom s [] = s ∷ []
@@ -54,42 +60,38 @@ lastFrom : State → List (Whole ℕ) → State
 lastFrom s [] = s
 lastFrom s (w ∷ ws) = lastFrom (next s w) ws
 
-data Passes : State → List (Whole ℕ) → Type 0 where
-  none : {s : State} → Passes s []
-  more : {s : State} {w : Whole ℕ} {ws : List (Whole ℕ)} → Fine 16 (text s) w
-      → ((o : Beside) → undoable (viewAt s o) (w .edit) (lentAt s w o) ≡ done true) → Passes (next s w) ws → Passes s (w ∷ ws)
+data Passes : State → List (Whole ℕ) → List Beside → Type 0 where
+  none : {s : State} → Passes s [] []
+  more : {s : State} {w : Whole ℕ} {o : Beside} {ws : List (Whole ℕ)} {os : List Beside} → called s w o .answer ≡ done (appliedAs (viewAt s o) (doing w (text s)))
+      → undoable (viewAt s o) (w .edit) (lentAt s w o) ≡ done true → Passes (next s w) ws os → Passes s (w ∷ ws) (o ∷ os)
 
-record Ran (s : State) (ws : List (Whole ℕ)) : Type 0 where
+record Ran (s : State) (ws : List (Whole ℕ)) (os : List Beside) : Type 0 where
   run : Run Undoable s (lastFrom s ws)
   its-edits : edits run ≡ ws
+  its-besides : besides run ≡ os
   its-states : stages run ≡ statesFrom s ws
 
-ran : (s : State) (ws : List (Whole ℕ)) → Held 16 s → Passes s ws → Ran s ws
-unfolding edits stages lastFrom statesFrom
-ran s [] k none = record { run = stop; its-edits = refl; its-states = refl }
-ran s (w ∷ ws) k (more f e p) =
-    let r = ran (next s w) ws (next-held 16 s w k f) p in
+ran : (s : State) (ws : List (Whole ℕ)) (os : List Beside) → Passes s ws os → Ran s ws os
+unfolding edits stages besides lastFrom statesFrom
+ran s [] [] none = record { run = stop; its-edits = refl; its-besides = refl; its-states = refl }
+ran s (w ∷ ws) (o ∷ os) (more e u p) =
+    let a : Applied = appliedAs (viewAt s o) (doing w (text s)) in
+    let c = once-called s w o a e in
+    let h : Undoable s w (next s w) (doing w (text s) .inverse) = (o, (a, e, c .state, c .inverse), u) in
+    let r = ran (next s w) ws os p in
     record {
-      run = step (step-accepted 16 s w (doing w (text s) .text) (doing w (text s) .inverse) k (record { fine = f; text = refl; inverse = refl }), e) (r .run);
+      run = step h (r .run);
       its-edits = ap {B = List (Whole ℕ)} (λ l. w ∷ l) (r .its-edits);
+      its-besides = ap {B = List Beside} (λ l. o ∷ l) (r .its-besides);
       its-states = ap {B = List State} (λ l. s ∷ l) (r .its-states);
     }
 
 abbrev start : State
 start = opened (97 ∷ 98 ∷ 10 ∷ 99 ∷ [])
 
-passes : Passes start sampleEdits
-unfolding holds onto lines unlines rowCount lastRow rowLen rowStart clamp offset endOf inText admissible all textOk renewed scalar flatten inserted charsDeleted lineFrom lineTo linesDeleted replaced gap joinRow joinCols joinFlags put putAll padsOf pieces cutAll chunksOf anyFlag joined unspace splitFirst splitRow split blockInserted chunksDeleted rangeDeleted editedBy sum smallRange smallOk fewRows fewOk payloadOk withinFirst withinAll withinOk roomOk recordOk wide firstOf resultOf leaves applied rangeUndoable isUndoable undoable
-passes =
-    more (record { textual = tt; smalls = tt; fews = tt; payloads = tt; withins = tt; rooms = tt; records = tt }) (λ o. refl)
-    (more (record { textual = tt; smalls = tt; fews = tt; payloads = tt; withins = tt; rooms = tt; records = tt }) (λ o. refl)
-    (more (record { textual = tt; smalls = tt; fews = tt; payloads = tt; withins = tt; rooms = tt; records = tt }) (λ o. refl)
-    (more (record { textual = tt; smalls = tt; fews = tt; payloads = tt; withins = tt; rooms = tt; records = tt }) (λ o. refl)
-    (more (record { textual = tt; smalls = tt; fews = tt; payloads = tt; withins = tt; rooms = tt; records = tt }) (λ o. refl)
-    (more (record { textual = tt; smalls = tt; fews = tt; payloads = tt; withins = tt; rooms = tt; records = tt }) (λ o. refl)
-    (more (record { textual = tt; smalls = tt; fews = tt; payloads = tt; withins = tt; rooms = tt; records = tt }) (λ o. refl)
-    (more (record { textual = tt; smalls = tt; fews = tt; payloads = tt; withins = tt; rooms = tt; records = tt }) (λ o. refl)
-    none)))))))
+passes : Passes start sampleEdits sampleBesides
+unfolding onto lines unlines rowCount lastRow rowLen rowStart clamp offset endOf inText admissible all textOk renewed scalar flatten inserted charsDeleted lineFrom lineTo linesDeleted replaced gap joinRow joinCols joinFlags put putAll padsOf pieces cutAll chunksOf anyFlag joined unspace splitFirst splitRow split blockInserted chunksDeleted rangeDeleted editedBy sum smallRange smallOk fewRows fewOk payloadOk withinFirst withinAll withinOk roomOk recordOk wide firstOf resultOf leaves applied rangeUndoable isUndoable undoable
+passes = more refl refl (more refl refl (more refl refl (more refl refl (more refl refl (more refl refl (more refl refl (more refl refl none)))))))
 
 sample-texts : map text (statesFrom start sampleEdits) ≡ sampleTexts
 unfolding statesFrom onto lines unlines rowCount lastRow rowLen rowStart clamp offset endOf inText admissible all textOk renewed scalar flatten inserted charsDeleted lineFrom lineTo linesDeleted replaced gap joinRow joinCols joinFlags put putAll padsOf pieces cutAll chunksOf anyFlag joined unspace splitFirst splitRow split blockInserted chunksDeleted rangeDeleted editedBy sum smallRange smallOk fewRows fewOk payloadOk withinFirst withinAll withinOk roomOk recordOk wide firstOf resultOf leaves applied rangeUndoable isUndoable undoable
@@ -97,5 +99,13 @@ sample-texts = refl
 
 pub sample-run : SampleRun
 sample-run =
-    let r = ran start sampleEdits (record { long = refl; within = omega arith }) passes in
-    record { last = lastFrom start sampleEdits; run = r .run; its-edits = r .its-edits; its-texts = ap (map text) (r .its-states) ∙ sample-texts }
+    let r = ran start sampleEdits sampleBesides passes in
+    let k = run-held 16 (r .run) (record { long = refl; within = omega arith }) in
+    record {
+      last = lastFrom start sampleEdits;
+      run = r .run;
+      its-edits = r .its-edits;
+      its-besides = r .its-besides;
+      its-texts = ap (map text) (r .its-states) ∙ sample-texts;
+      room = record { payload = omega (arith, k .long); first = omega arith; second = omega arith };
+    }

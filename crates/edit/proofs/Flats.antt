@@ -18,7 +18,7 @@ use Rattle.edit.specs.Edits.{Whole, whole, Edited, edited, inserted, cut
 use Rattle.edit.specs.Refusals.{smallPosition, smallRange, smallOk, fewRows, fewOk, payloadOk, withinOk, roomOk}
 use Rattle.promise.proofs.Bools.{T-both}
 use Rattle.text.proofs.Alls.{all-append, all-take, all-drop}
-use Rattle.edit.proofs.Accepted.{doing, full, Ok, Fine, Step, Back, ok-room, ok-fits, ok-short, ok-admissible, ok-both, record-room}
+use Rattle.edit.proofs.Accepted.{doing, full, Ok, Fine, Step, Back, ok-room, ok-short, ok-admissible, ok-both}
 use Rattle.text.proofs.Spots.{offset-le, clamp-place, offset-place, end-row, end-col, start-mono, end-upto, cut-parts}
 
 -- ---- insert, delete and replace at the end of P, in P ++ (X ++ Q)
@@ -70,9 +70,6 @@ module _ (n : ℕ) (P X Q : List ℕ) (long : Ok n (P ++ (X ++ Q))) where
   lengths : length (P ++ (X ++ Q)) ≡ length P + (length X + length Q)
   lengths = simp length-append
 
-  len : length P + (length X + length Q) ≤ n
-  len = omega (arith, ok-fits n (P ++ (X ++ Q)) long, lengths)
-
   len′ : length P + (length X + length Q) ≤ 16384
   len′ = omega (arith, ok-short n (P ++ (X ++ Q)) long, lengths)
 
@@ -97,7 +94,6 @@ module _ (n : ℕ) (P X Q : List ℕ) (long : Ok n (P ++ (X ++ Q))) where
         payloads = mid-admissible;
         withins = tt;
         rooms = rw (inserted-end P Q X) (ok-room n (P ++ (X ++ Q)) long);
-        records = rw (inserted-end P Q X) (record-room (full n) (whole (DeleteRange (end P) (end (P ++ X)) Char) [] [] []) (omega arith) (omega arith) (omega arith));
       }) (inserted-end P Q X)
 
   step-delete : Ok n (P ++ Q) → Step n (P ++ (X ++ Q)) (whole (DeleteRange (end P) (end (P ++ X)) Char) [] [] []) (P ++ Q) (whole (InsertStr (end P)) X [] [])
@@ -110,7 +106,6 @@ module _ (n : ℕ) (P X Q : List ℕ) (long : Ok n (P ++ (X ++ Q))) where
         payloads = tt;
         withins = tt;
         rooms = rw (deleted-end P X Q) (ok-room n (P ++ Q) brief);
-        records = rw (deleted-end P X Q) (record-room (full n) (whole (InsertStr (end P)) X [] []) (omega (arith, len)) (omega arith) (omega arith));
       }) (deleted-end P X Q)
 
   step-replace : (Y : List ℕ) → T (all admissible Y) → Ok n (P ++ (Y ++ Q))
@@ -124,7 +119,6 @@ module _ (n : ℕ) (P X Q : List ℕ) (long : Ok n (P ++ (X ++ Q))) where
         payloads = k;
         withins = tt;
         rooms = rw (replaced-end P X Q Y) (ok-room n (P ++ (Y ++ Q)) other);
-        records = rw (replaced-end P X Q Y) (record-room (full n) (whole (Replace (end P) (end (P ++ Y))) X [] []) (omega (arith, len)) (omega arith) (omega arith));
       }) (replaced-end P X Q Y)
 
   back-insert-end : Ok n (P ++ Q) → Back n (P ++ Q) (P ++ (X ++ Q)) (whole (DeleteRange (end P) (end (P ++ X)) Char) [] [] [])

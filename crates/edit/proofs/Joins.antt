@@ -17,7 +17,7 @@ use Rattle.text.proofs.Laws.{unlines-lines, len-le, last-le, count-pos}
 use Rattle.utf8.specs.Rfc3629.{scalar}
 use Rattle.edit.specs.declared.Edit.the-variants.{JoinLines, SplitLines}
 use Rattle.edit.specs.Edits.{whole, Edited, edited, rowAt, gap, joinNext, joinRow, joinCols, joinFlags, joined, unspace, splitFirst, splitRow, anyFlag, split, editedBy}
-use Rattle.edit.specs.Refusals.{isSpace, spaces, small, smallOk, fewOk, payloadOk, withinFirst, withinAll, withinOk, roomOk, recordOk}
+use Rattle.edit.specs.Refusals.{isSpace, spaces, small, smallOk, fewOk, payloadOk, withinFirst, withinAll, withinOk, roomOk}
 use Rattle.promise.proofs.Bools.{T-both}
 use Rattle.text.proofs.Alls.{all-append, all-left, all-right}
 use Rattle.edit.proofs.Accepted.{full, Ok, Step, Back, ok-room, ok-short, ok-admissible, ok-both}
@@ -292,7 +292,7 @@ module _ (n : ℕ) (t : List ℕ) (h : Ok n t) (A : List (Line ℕ)) (x : Line �
     redone = rw (joined-rows t A x B e (length cols) (anyFlag flags), joinCols-length b x ys, take-again m B m1, drop-again m B m1, join-again b x ys)
 
     step-split : Step n u (whole (SplitLines (rowAt (length A))) [] cols flags) t (whole (JoinLines (rowAt (length A)) (length cols) (anyFlag flags)) [] [] [])
-    unfolding editedBy smallOk fewOk payloadOk withinOk recordOk
+    unfolding editedBy smallOk fewOk payloadOk withinOk
     step-split = record {
       fine = record {
         textual = ok-u;
@@ -301,14 +301,13 @@ module _ (n : ℕ) (t : List ℕ) (h : Ok n t) (A : List (Line ℕ)) (x : Line �
         payloads = tt;
         withins = rw (row-min u A z (drop m B) lines-u, lines-u, getD-append-seam A z (drop m B) (line [] [])) (split-join-within b x ys broken);
         rooms = rw undone (ok-room n t h);
-        records = rw (undone, le-leb 0 n (omega arith)) tt;
       };
       text = ap (λ (d : Edited ℕ). d .text) undone;
       inverse = ap (λ (d : Edited ℕ). d .inverse) undone;
     }
 
     step-join : Step n t (whole (JoinLines (rowAt (length A)) (length cols) (anyFlag flags)) [] [] []) u (whole (SplitLines (rowAt (length A))) [] (joinCols 32 (anyFlag flags) x ys) (joinFlags 32 (anyFlag flags) x ys))
-    unfolding editedBy smallOk fewOk payloadOk withinOk recordOk
+    unfolding editedBy smallOk fewOk payloadOk withinOk
     step-join = record {
       fine = record {
         textual = h;
@@ -317,7 +316,6 @@ module _ (n : ℕ) (t : List ℕ) (h : Ok n t) (A : List (Line ℕ)) (x : Line �
         payloads = tt;
         withins = tt;
         rooms = rw redone (ok-room n u ok-u);
-        records = rw (redone, joinCols-length (anyFlag flags) x ys, joinFlags-length (anyFlag flags) x ys, le-leb (length ys) 256 many, le-leb 0 n (omega arith)) tt;
       };
       text = ap (λ (d : Edited ℕ). d .text) redone;
       inverse = ap (λ (d : Edited ℕ). d .inverse) redone;
@@ -328,6 +326,16 @@ module _ (n : ℕ) (t : List ℕ) (h : Ok n t) (A : List (Line ℕ)) (x : Line �
 
 below-last : (k r : ℕ) → k - suc r ≡ k - 1 - r
 below-last k r = omega arith
+
+-- the joins that a join makes are at most 256
+pub joins-few : (t : List ℕ) (row : Row) (count : ℕ) (b : Bool) (x f s : List ℕ) → T (fewOk t (JoinLines row count b) x f s)
+    → length (take (max count 1) (drop (suc (min (row .0) (lastRow isLF t))) (lines isLF t))) ≤ 256
+unfolding fewOk lastRow rowCount
+joins-few t row count b x f s few =
+    let R = lines isLF t in
+    let r = min (row .0) (length R - 1) in
+    let m = max count 1 in
+    rw (length-take m (drop (suc r) R), length-drop (suc r) R, below-last (length R) r) (leb→le (min m (length R - 1 - r)) 256 few)
 
 pub back-join : (n : ℕ) (t : List ℕ) → Ok n t → (row : Row) (count : ℕ) (b : Bool)
     → T (fewOk t (JoinLines row count b) [] [] []) → T (roomOk (full n) (joined isLF isSpace spaces t (row .0) count b .text))
@@ -342,6 +350,6 @@ back-join n t h row count b few room =
     let l : 1 ≤ length R = count-pos isLF t in
     let e : R ≡ take r R ++ x ∷ B = split-at R r (line [] []) (omega arith) in
     let a : length (take r R) ≡ r = length-take-le r R (omega arith) in
-    let many : length (take m B) ≤ 256 = rw (length-take m B, length-drop (suc r) R, below-last (length R) r) (leb→le (min m (length R - 1 - r)) 256 few) in
+    let many : length (take m B) ≤ 256 = joins-few t row count b [] [] [] few in
     subst (λ (k : ℕ). Back n t (unlines (take r R ++ joinRow 32 b x (take m B) ∷ drop m B)) (whole (SplitLines (rowAt k)) [] (joinCols 32 b x (take m B)) (joinFlags 32 b x (take m B)))) a
     (back-rows n t h (take r R) x B e m (omega arith) b many room)

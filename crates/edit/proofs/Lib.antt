@@ -4,6 +4,7 @@ pub mod Accepted
 pub mod Flats
 pub mod Joins
 pub mod Blocks
+pub mod Fits
 pub mod Undo
 pub mod Calls
 pub mod Sums

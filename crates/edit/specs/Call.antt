@@ -1,4 +1,5 @@
 -- The whole call of an edit: from the lent slices, the view and the edit at entry to the answer and every lent slice at exit.
+use mathlib.Core.Path.{_≡_}
 use mathlib.Core.Bool.{Bool, true, false, cond, not}
 use mathlib.Core.List.{List, [], _∷_, _++_}
 use Prim.Native.Nat.{ℕ, _+_, _%_, _^_}
@@ -148,6 +149,10 @@ unfoldable pub applied : View → Edit → Lent → Outcome
 applied v e l =
     let d = resultOf v e l in
     leaves (firstOf (givenTests v e l ++ resultTests (withinOk (textOf v l) e (l .first) (l .second)) (roomOf l) d) (done (appliedAs v d))) v l d
+
+-- What `apply_edit` promises: its answer, with the text and the slices for the inverse as they are at exit, is the whole call at what was lent.
+abbrev pub Promised : Answer → List ℕ → List ℕ → List ℕ → List ℕ → View → Edit → Lent → Type 0
+Promised r text payload first second v e l = outcome (paperAnswer r) text payload first second ≡ applied v e l
 
 -- ---- undoable
 

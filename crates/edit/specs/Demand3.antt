@@ -58,19 +58,21 @@ after a r = record { used = a .view .used; buffer = r .text }
 abbrev pub returned : Applied → Outcome → Whole ℕ
 returned a r = whole (a .inverse) (take (a .payload) (r .payload)) (take (a .first) (r .first)) (take (a .second) (r .second))
 
--- with any cursor and counter and the record room, whatever it holds, edit w is accepted at s and leaves u and the inverse i
+-- with o beside, edit w is accepted at s and leaves u and the inverse i
+abbrev pub AcceptedWith : Beside → State → Whole ℕ → State → Whole ℕ → Type 0
+AcceptedWith o s w u i = (a : Applied) × (called s w o .answer ≡ done a) × (after a (called s w o) ≡ u) × (returned a (called s w o) ≡ i)
+
+-- so it is with any cursor and counter and the record room, whatever it holds
 abbrev pub Accepted : State → Whole ℕ → State → Whole ℕ → Type 0
-Accepted s w u i = (o : Beside) → RecordRoom s o → (a : Applied) × (called s w o .answer ≡ done a) × (after a (called s w o) ≡ u) × (returned a (called s w o) ≡ i)
+Accepted s w u i = (o : Beside) → RecordRoom s o → AcceptedWith o s w u i
 
--- Whoever saw the call accepted once, whatever was lent, with an inverse that the named room holds, has that.
+-- Whoever saw it accepted once, whatever was lent, has that.
 abbrev pub AcceptedOnce : Type 0
-AcceptedOnce =
-    (s : State) (w : Whole ℕ) (o : Beside) (a : Applied) → called s w o .answer ≡ done a → a .payload ≤ length (s .buffer) → a .first ≤ 256 → a .second ≤ 256
-    → Accepted s w (after a (called s w o)) (returned a (called s w o))
+AcceptedOnce = (o : Beside) (s : State) (w : Whole ℕ) (u : State) (i : Whole ℕ) → AcceptedWith o s w u i → Accepted s w u i
 
--- and `undoable` says yes to it at that moment
+-- an edit that was accepted, with whatever slices sufficed, and to which `undoable` says yes at that moment
 abbrev pub Undoable : State → Whole ℕ → State → Whole ℕ → Type 0
-Undoable s w u i = Accepted s w u i × ((o : Beside) → undoable (viewAt s o) (w .edit) (lentAt s w o) ≡ done true)
+Undoable s w u i = (o : Beside) × AcceptedWith o s w u i × (undoable (viewAt s o) (w .edit) (lentAt s w o) ≡ done true)
 
 -- demand 3: "every returned inverse is accepted, and applying them last first gives back the text at each stage, character for character.
 -- The inverses which those give, again applied last first, are accepted and rebuild the edited text at each stage."

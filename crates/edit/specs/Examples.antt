@@ -15,8 +15,8 @@ use Rattle.edit.specs.declared.Edit.the-variants.{InsertChar, InsertStr,
 use Rattle.edit.specs.Edits.{Whole, whole, edited, rowAt}
 use Rattle.edit.specs.Refusals.{fewOk}
 use Rattle.edit.specs.Call.{outcome, nextView}
-use Rattle.edit.specs.Runs.{Run, edits, stages}
-use Rattle.edit.specs.Demand3.{State, text, Beside, called, Undoable}
+use Rattle.edit.specs.Runs.{Run, stop, step, edits, stages}
+use Rattle.edit.specs.Demand3.{State, text, Beside, RecordRoom, called, Undoable}
 
 -- a text in a buffer of 16 places, with 7 in those behind it; slices of 8 and 4 places, full of 9
 abbrev pub opened : List ℕ → State
@@ -183,6 +183,21 @@ pub record RuledOut : Type 0 where
       called (opened threeRows) (plain (JoinLines (rowAt 0) 1 false) []) (record { cursor = at 0 0; changes = 0; payload = []; first = replicate 4 9; second = [] })
       ≡ outcome (refused 9 0) (opened threeRows .buffer) [] (replicate 4 9) []
 
+-- ---- the record room that document 01 names: 16 places here, and 256 in each list
+
+-- the slices of `beside` are shorter; these are longer
+abbrev pub ample : Beside
+ample = record { cursor = at 9 9; changes = 18_446_744_073_709_551_615; payload = replicate 17 5; first = replicate 257 5; second = replicate 257 5 }
+
+-- some inverses fill it, so no less would do: the lists of a block insert of 256 chunks, and the payload of a full buffer deleted
+pub record RoomFilled : Type 0 where
+  pub lists :
+      called (opened []) (whole (InsertBlock (at 0 0)) [] (replicate 256 0) []) ample .answer
+      ≡ done (record { view = record { used = 0; cursor = at 0 0; changes = 0 }; inverse = DeleteBlockChunks (at 0 0); payload = 0; first = 256; second = 256 })
+  pub payload :
+      called (opened (replicate 16 97)) (plain (DeleteRange (at 0 0) (at 0 0) Lines) []) ample .answer
+      ≡ done (record { view = record { used = 0; cursor = at 0 0; changes = 0 }; inverse = InsertStr (at 0 0); payload = 16; first = 0; second = 0 })
+
 -- ---- a run of every kind that demand 3 names
 
 abbrev pub sampleEdits : List (Whole ℕ)
@@ -210,8 +225,19 @@ sampleTexts =
     ∷ (97 ∷ [])
     ∷ []
 
+abbrev pub sampleBesides : List Beside
+sampleBesides = beside ∷ ample ∷ beside ∷ ample ∷ beside ∷ ample ∷ beside ∷ ample ∷ []
+
+-- what each call was handed beside
+unfoldable pub besides : {s w : State} → Run Undoable s w → List Beside
+besides stop = []
+besides (step h r) = h .0 ∷ besides r
+
 pub record SampleRun : Type 0 where
   pub last : State
   pub run : Run Undoable (opened (97 ∷ 98 ∷ 10 ∷ 99 ∷ [])) last
   pub its-edits : edits run ≡ sampleEdits
+  pub its-besides : besides run ≡ sampleBesides
   pub its-texts : map text (stages run) ≡ sampleTexts
+  -- room to undo it with
+  pub room : RecordRoom last ample

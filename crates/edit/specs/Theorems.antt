@@ -14,6 +14,7 @@ use Rattle.edit.specs.declared.MotionKind.{MotionKind}
 use Rattle.edit.specs.declared.MotionKind.the-variants.{Char, Line as Lines, Block}
 use Rattle.edit.specs.declared.Edit.{Edit}
 use Rattle.edit.specs.declared.Edit.the-variants.{InsertChar, InsertStr, DeleteRange, JoinLines, SplitLines, Replace, InsertBlock, DeleteBlockChunks}
+use Rattle.edit.specs.declared.Applied.{Applied}
 use Rattle.edit.specs.Call.{paperAnswer, firstOf, Lent, textOf, givenTests, Outcome, applied, undoable}
 use Rattle.edit.specs.Edits.{Whole, whole, Made, Edited, edited, editedBy}
 
@@ -78,6 +79,23 @@ pub record SameLengths (l : Lent) (r : Outcome) : Type 0 where
 
 abbrev pub LengthsKept : Type 0
 LengthsKept = (v : View) (e : Edit) (l : Lent) → SameLengths l (applied v e l)
+
+-- "Demand 3's record room is a payload slice as long as the text buffer and 256 items in each list slice": the inverse of every accepted
+-- edit fits it, whatever was lent. What its payload holds stood in the text, and that is in the buffer.
+pub record FitsNamedRoom (v : View) (l : Lent) (a : Applied) : Type 0 where
+  pub payload : a .payload ≤ v .used
+  pub used : v .used ≤ length (l .buffer)
+  pub first : a .first ≤ 256
+  pub second : a .second ≤ 256
+
+abbrev pub InverseFits : Type 0
+InverseFits = (v : View) (e : Edit) (l : Lent) (a : Applied) → applied v e l .answer ≡ done a → FitsNamedRoom v l a
+
+-- So where that room is lent, or more, no edit is refused by 9.
+abbrev pub NamedRoomSuffices : Type 0
+NamedRoomSuffices =
+    (v : View) (e : Edit) (l : Lent) (k : ℕ) → length (l .buffer) ≤ length (l .outPayload) → 256 ≤ length (l .outFirst) → 256 ≤ length (l .outSecond)
+    → applied v e l .answer ≡ refused 9 k → ⊥
 
 -- an answer is settled by its number, its offset or what was done
 abbrev pub AnswerSettled : Type 0

@@ -21,6 +21,7 @@ use Rattle.edit.specs.Edits.{Whole, corner, height, breadth, rangeDeleted, edit
 use Rattle.edit.specs.Refusals.{small, smallPosition, smallRange, smallOk, few, fewOk}
 use Rattle.edit.specs.Call.{Lent, textOf, resultOf, roomOf}
 use Rattle.edit.proofs.Blocks.{small-both}
+use Rattle.edit.proofs.Fits.{inverse-fits}
 use Rattle.edit.proofs.Workers.{Fits, Passed, accepted}
 use Rattle.hex.specs.Digits.{hexed}
 use Rattle.hex.proofs.Theorems.{two-digits}
@@ -93,9 +94,10 @@ compact-line w c n = (
 )
 
 pub inverses-have-lines : InversesHaveLines
-inverses-have-lines v e l a h b k =
+unfolding resultOf
+inverses-have-lines v e l a h b =
     let p = accepted v e l a h in
-    compact-line (resultOf v e l .inverse) (compact v l b e (p .0) (p .1)) (omega (arith, p .1 .first))
+    compact-line (resultOf v e l .inverse) (compact v l b e (p .0) (p .1)) (inverse-fits (textOf v l) e (l .payload) (l .first) (l .second) (p .0 .fews) .1)
 
 pub texts-have-lines : TextsHaveLines
 unfolding hasFrame frameChars frameBytes words

@@ -1,5 +1,5 @@
--- "Lines of lower-case hexadecimal, at most 36,864 digits", and what a run prints never needs more: its text is in "a 4,096-character buffer", and
--- there are "256 items in each list slice". The proofs stand in proofs/Inverses.antt.
+-- "Lines of lower-case hexadecimal, at most 36,864 digits", and what a run prints never needs more: its text is in "a 4,096-character buffer".
+-- The proofs stand in proofs/Inverses.antt.
 use mathlib.Core.Bool.{true}
 use mathlib.Core.List.{List}
 use mathlib.Core.Path.{_≡_}
@@ -24,7 +24,7 @@ HasLine f = lineOf f ≡ done (hexed (frameBytes f))
 -- "Per edit line it prints 00 and the inverse frame": each inverse has one, and it is read back as it is
 abbrev pub InversesHaveLines : Type 0
 InversesHaveLines =
-    (v : View) (e : Edit) (l : Lent) (a : Applied) → applied v e l .answer ≡ done a → length (l .buffer) ≤ 4_096 → length (l .outFirst) ≤ 256
+    (v : View) (e : Edit) (l : Lent) (a : Applied) → applied v e l .answer ≡ done a → length (l .buffer) ≤ 4_096
     → HasLine (edit (resultOf v e l .inverse)) × (words (edit (resultOf v e l .inverse)) ≡ true) × (usedOf (edit (resultOf v e l .inverse)) ≡ edit (resultOf v e l .inverse))
 
 -- "at the end the text frame, then each mark"

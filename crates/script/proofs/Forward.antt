@@ -69,6 +69,6 @@ module _ (inverses-read : InversesRead) where
         run = then h (d .run);
         plain = more-lines (read-plain l (edit (x .whole)) (x .reads)) (d .plain);
         lines = cc;
-        read = more-read (inverses-read c (o .whole) v (o .inverse) (omega (arith, k .long)) (h .0)) (d .read);
+        read = more-read (inverses-read (h .0) c (o .whole) v (o .inverse) (omega (arith, k .long)) (h .1)) (d .read);
         prints = printed-more (accepted i) (step s l .printed) (runs (step s l .state) ls) (ending u) (map accepted is) (x .prints) (d .prints);
       }

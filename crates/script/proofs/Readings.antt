@@ -5,7 +5,7 @@ use Prim.Native.Nat.{ℕ, _≤_}
 use lib.ListN.{length}
 use Rattle.promise.specs.Paper.{done}
 use Rattle.edit.specs.Edits.{Whole}
-use Rattle.edit.specs.Demand3.{State as Core, Accepted}
+use Rattle.edit.specs.Demand3.{State as Core, Beside, AcceptedWith}
 use Rattle.edit.proofs.Maps.{map-append}
 use Rattle.frame.specs.Format.{edit}
 use Rattle.frame.specs.Reads.{frameRead}
@@ -19,7 +19,7 @@ Reads w = frameRead (lined w) ≡ done (edit w)
 
 -- what is wanted of frames: every inverse that a script prints is read as itself
 abbrev pub InversesRead : Type 0
-InversesRead = (c : Core) (w : Whole ℕ) (u : Core) (i : Whole ℕ) → length (c .buffer) ≤ bufferLimit → Accepted c w u i → Reads i
+InversesRead = (o : Beside) (c : Core) (w : Whole ℕ) (u : Core) (i : Whole ℕ) → length (c .buffer) ≤ bufferLimit → AcceptedWith o c w u i → Reads i
 
 pub data AllRead : List (Whole ℕ) → Type 0 where
   none : AllRead []

@@ -3,15 +3,14 @@ use mathlib.Core.Path.{_≡_, refl, sym, _∙_, ap, subst}
 use mathlib.Core.Bool.{true}
 use mathlib.Core.List.{List, [], _∷_, _++_, map, reverse}
 use Prim.Native.Nat.{ℕ, _≤_}
-use native.Mathlib.Omega.{arith}
-use lib.ListN.{length, length-replicate}
+use lib.ListN.{length}
 use Rattle.promise.specs.Paper.{done}
 use Rattle.promise.proofs.Bools.{T-true}
 use Rattle.text.specs.Text.{allAdmissible}
 use Rattle.edit.specs.Call.{resultOf}
 use Rattle.edit.specs.Demand3.{State as Core, text as textOf, viewAt, lentAt}
 use Rattle.edit.proofs.Accepted.{Ok, ok-fits, ok-admissible}
-use Rattle.edit.proofs.Calls.{accepted-called, exact}
+use Rattle.edit.proofs.Calls.{with-called}
 use Rattle.edit.proofs.Demand3.{reversed, run-ok}
 use Rattle.frame.specs.Format.{text, edit}
 use Rattle.frame.specs.Reads.{frameRead}
@@ -43,13 +42,9 @@ texts-read cs e h = let x = texts-have-lines cs e h in reads-written (text cs) (
 
 inverses-read : InversesRead
 unfolding resultOf
-inverses-read c w u i h k =
-    let o = exact c in
-    let p : length (o .payload) ≡ length (c .buffer) = length-replicate {A = ℕ} (length (c .buffer)) 0 in
-    let l : length (o .first) ≡ 256 = length-replicate {A = ℕ} 256 0 in
-    let a = k o (record { payload = omega (arith, p); first = omega (arith, l); second = omega (arith, l) }) in
-    let x = inverses-have-lines (viewAt c o) (w .edit) (lentAt c w o) (a .0) (a .1) h (omega (arith, l)) in
-    let q = accepted-called c w u i k .inverse in
+inverses-read o c w u i h k =
+    let x = inverses-have-lines (viewAt c o) (w .edit) (lentAt c w o) (k .0) (k .1) h in
+    let q = with-called o c w u i k .inverse in
     rw q (reads-written (edit _) (lined _) (x .1) (x .0) ∙ ap done (x .2))
 
 -- ---- the theorem

@@ -10,7 +10,7 @@ use Rattle.edit.specs.declared.Applied.{Applied}
 use Rattle.edit.specs.Edits.{Whole}
 use Rattle.edit.specs.Call.{Outcome, undoable}
 use Rattle.edit.specs.Demand3.{State as Core, Beside, RecordRoom, called, after, returned, Accepted, Undoable}
-use Rattle.edit.proofs.Calls.{accepted-once, refused-number, answer-fits}
+use Rattle.edit.proofs.Calls.{accepted-once, refused-number}
 use Rattle.hex.specs.Digits.{digitOf, hexed}
 use Rattle.hex.proofs.Zeros.{zero-byte, hexed-zero}
 use Rattle.frame.specs.Format.{edit, frameBytes}
@@ -65,11 +65,7 @@ module _ (s : State) (w : Whole ℕ) where
 
   -- an accepted call is an accepted edit, with what the call returned
   pub once : (a : Applied) → o .answer ≡ done a → Accepted (core s) w (after a o) (returned a o)
-  once a e =
-      let f = answer-fits (core s) w (beside s) a e in
-      let p = zeros (length (s .buffer)) in
-      let l = zeros 256 in
-      accepted-once (core s) w (beside s) a e (omega (arith, p, f .0)) (omega (arith, l, f .1)) (omega (arith, l, f .2))
+  once a e = accepted-once (beside s) (core s) w (after a o) (returned a o) (a, e, refl, refl)
 
   printed-done : (i : List ℕ) (a : Applied) → o .answer ≡ done a → edited s w .printed ≡ (48 ∷ 48 ∷ i) ++ (10 ∷ []) → Prints i
   unfolding answered
@@ -96,7 +92,5 @@ module _ (s : State) (w : Whole ℕ) where
       go (done a) e = printed-done i a e h
       go (refused n k) e = absurd (printed-refused i n k e h)
 
-  -- `undoable` reads nothing of what is handed beside
   pub undoable-called : undoable (s .view) (w .edit) (lentTo s w) ≡ done true → (u : Core) (i : Whole ℕ) → Accepted (core s) w u i → Undoable (core s) w u i
-  unfolding undoable
-  undoable-called h u i a = (a, λ b. h)
+  undoable-called h u i a = (beside s, a (beside s) room, h)

@@ -21,7 +21,7 @@ use Rattle.edit.specs.declared.Verdict.the-variants.{Fine, Bad}
 use Rattle.edit.specs.Refusals.{smallOk, fewOk, payloadOk}
 use Rattle.edit.specs.Call.{numberOf, offsetOf, paperVerdict, Lent, lent, Outcome, outcome, verdictOf, givenTests, leaves as leavesCall, applied}
 use Rattle.edit.specs.Demand3.{returned}
-use Rattle.edit.proofs.Calls.{lengths-kept, answer-fits}
+use Rattle.edit.proofs.Calls.{lengths-kept, inverse-fits-room}
 use Rattle.edit.proofs.Workers.{given-passed, applied-refused}
 use Rattle.given.specs.Tests.{laterTests}
 use Rattle.shift.specs.Call.{orderedOk}
@@ -42,8 +42,6 @@ use Rattle.loading.specs.States.{State, bufferLimit, stateOf}
 use Rattle.loading.specs.Loads.{refuses, framedBy}
 use Rattle.step.specs.Steps.{lentTo, carried, answered, ran, edited, framed}
 use Rattle.step.specs.Calls.{Ready, Left, left, leaves, carriedIn, inverseIn}
-use Rattle.step.proofs.Framing.{core}
-use Rattle.step.proofs.Callings.{beside}
 use Rattle.step.proofs.Readies.{inverse-lines, judged-given}
 use Rattle.step.proofs.Shifts.{moved-marks}
 
@@ -151,9 +149,8 @@ module _ (c : Script) (t m : List ℕ) (h : Ready c t m) where
       module _ (a : Applied) (q : p ≡ done a) where
         fits : (a .payload ≤ length t) × (a .first ≤ 256) × (a .second ≤ 256)
         fits =
-            let k = answer-fits (core s) w (beside s) a (answers ∙ q) in
-            let n = length-replicate {A = ℕ} 256 0 in
-            (omega (arith, k .0, length-replicate {A = ℕ} (length t) 0), omega (arith, k .1, n), omega (arith, k .2, n))
+            let k = inverse-fits-room (c .view) (w .edit) (lentTo s w) a (answers ∙ q) in
+            (omega (arith, k .payload, k .used), k .first, k .second)
 
         inverse-same : inverseIn a back f g ≡ returned a call
         inverse-same =

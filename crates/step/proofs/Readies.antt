@@ -23,7 +23,7 @@ use Rattle.edit.specs.Refusals.{smallOk, fewOk, payloadOk}
 use Rattle.edit.specs.Call.{firstOf, verdictOf, lent, Outcome, resultOf, givenTests, applied}
 use Rattle.edit.specs.Demand3.{State as Core, after, returned}
 use Rattle.edit.proofs.Accepted.{doing}
-use Rattle.edit.proofs.Calls.{Called, lengths-kept, accepted-called}
+use Rattle.edit.proofs.Calls.{Called, lengths-kept, once-called}
 use Rattle.edit.proofs.Workers.{accepted}
 use Rattle.given.specs.Tests.{laterTests}
 use Rattle.select.specs.declared.Sel.{Sel}
@@ -50,7 +50,7 @@ use Rattle.loading.specs.Loads.{Stepped, stepped, refuses, loaded, framedBy}
 use Rattle.step.specs.Steps.{lentTo, carried, answered, ran, ordered, framed, sees, step}
 use Rattle.step.specs.Calls.{Ready}
 use Rattle.step.proofs.Framing.{core}
-use Rattle.step.proofs.Callings.{once}
+use Rattle.step.proofs.Callings.{beside}
 use Rattle.step.proofs.Admitted.{edited-admitted}
 
 -- ---- lines printed
@@ -69,7 +69,7 @@ module _ (s : State) (w : Whole ℕ) (a : Applied) where
 
   module _ (e : o .answer ≡ done a) where
     called : Called (core s) w (after a o) (returned a o)
-    called = accepted-called (core s) w (after a o) (returned a o) (once s w a e)
+    called = once-called (core s) w (beside s) a e
 
     -- what it leaves is admitted
     accepted-text : textOk (o .text) (a .view .used) ≡ true
@@ -86,7 +86,7 @@ module _ (s : State) (w : Whole ℕ) (a : Applied) where
     inverse-line : length (s .buffer) ≤ bufferLimit → HasLine (format.edit (returned a o))
     unfolding resultOf
     inverse-line h =
-        rw (called .inverse) (inverses-have-lines (s .view) (w .edit) (lentTo s w) a e h (omega (arith, length-replicate {A = ℕ} 256 0)) .0)
+        rw (called .inverse) (inverses-have-lines (s .view) (w .edit) (lentTo s w) a e h .0)
 
 -- ---- after a line
 

@@ -4,8 +4,8 @@ use edit::Answer;
 use edit::Edit;
 use edit::View;
 ghost use mathlib.Core.Path.{_≡_};
-ghost use Rattle.edit.specs.Call.{paperAnswer, outcome, lent};
-ghost use Rattle.thin.specs.Stands.{viewAfter, updated, appliedIn};
+ghost use Rattle.edit.specs.Call.{paperAnswer, lent};
+ghost use Rattle.thin.specs.Stands.{viewAfter, PromisedIn};
 
 // The view after an answer: the new one, or the old where the edit was refused.
 fn view_after(view: View, answer: Answer) -> View
@@ -28,7 +28,7 @@ pub fn apply_edit_in(
     outfirst: &mut [u32],
     outsecond: &mut [u32],
 ) -> Answer
-    ensures { λ r. ⌜ updated (outcome (paperAnswer r) (now (text .exit)) (now (outpayload .exit)) (now (outfirst .exit)) (now (outsecond .exit))) (now (view .exit)) ≡ appliedIn (now (view .entry)) edit (lent (now (text .entry)) (now (payload .entry)) (now (first .entry)) (now (second .entry)) (now (outpayload .entry)) (now (outfirst .entry)) (now (outsecond .entry))) ⌝ }
+    ensures { λ r. ⌜ PromisedIn r (now (text .exit)) (now (outpayload .exit)) (now (outfirst .exit)) (now (outsecond .exit)) (now (view .exit)) (now (view .entry)) edit (lent (now (text .entry)) (now (payload .entry)) (now (first .entry)) (now (second .entry)) (now (outpayload .entry)) (now (outfirst .entry)) (now (outsecond .entry))) ⌝ }
 {
     let before = *view;
     let answer = apply_edit(

@@ -1,10 +1,12 @@
 -- The theorems that specs/Theorems.antt states.
 use mathlib.Core.Bool.{Bool, true, false}
+use mathlib.Core.List.{[]}
 use mathlib.Core.Path.{_≡_, refl, ap}
 use Rattle.promise.specs.Paper.{Paper, done, refused}
 use Rattle.promise.proofs.Settled.{settled}
 use Rattle.edit.specs.declared.Refusal.{Refusal}
 use Rattle.edit.specs.declared.View.{View}
+use Rattle.edit.specs.Call.{lent, undoable}
 use Rattle.edit.proofs.Theorems.{refusalBack, refusal-back}
 use Rattle.view.specs.declared.CanUndo.{CanUndo}
 use Rattle.view.specs.declared.CursorSet.{CursorSet}
@@ -36,4 +38,4 @@ cursor-back cursorSet.BadText = refl
 
 pub promises-settle : Settled
 promises-settle =
-    record { undoable = settled undoableBack undoable-back; set-cursor = settled cursorBack cursor-back; clamp-position = text.promises-settle .clamp-position }
+    record { undoable = λ b v e p f s x y h k. settled undoableBack undoable-back (undoable v e (lent b p f s [] [] [])) x y (h [] [] []) (k [] [] []); set-cursor = settled cursorBack cursor-back; clamp-position = text.promises-settle .clamp-position }

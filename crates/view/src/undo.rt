@@ -12,16 +12,15 @@ use rows::line_to_char;
 use text::Col;
 use text::LF;
 use text::Position;
-ghost use mathlib.Core.List.{List};
 ghost use mathlib.Core.Path.{_≡_};
-ghost use Prim.Native.Nat.{ℕ, _≤_};
+ghost use Prim.Native.Nat.{_≤_};
 ghost use lib.ListN.{length, take};
 ghost use Rattle.text.specs.Rows.{lines};
 ghost use Rattle.text.specs.Text.{isLF, textLimit};
 ghost use Rattle.edit.specs.declared.MotionKind.the-variants.{Block};
 ghost use Rattle.edit.specs.Refusals.{wide};
-ghost use Rattle.edit.specs.Call.{lent, rangeUndoable, isUndoable, undoable};
-ghost use Rattle.view.specs.Answers.{paperUndoable};
+ghost use Rattle.edit.specs.Call.{rangeUndoable, isUndoable};
+ghost use Rattle.view.specs.Calls.{UndoablePromised};
 
 // Whether none of the first `count` rows is shorter than `left`.
 fn rows_wide(text: &[u32], count: usize, left: Col) -> bool
@@ -99,7 +98,7 @@ pub fn undoable(
     first: &[u32],
     second: &[u32],
 ) -> CanUndo
-    ensures { λ r. ⌜ ((op of os : List ℕ) → paperUndoable r ≡ undoable view edit (lent (now (buffer .entry)) (now (payload .entry)) (now (first .entry)) (now (second .entry)) op of os)) ⌝ }
+    ensures { λ r. ⌜ UndoablePromised r (now (buffer .entry)) view edit (now (payload .entry)) (now (first .entry)) (now (second .entry)) ⌝ }
 {
     let verdict = judge(buffer, view, edit, payload, first, second);
     if let Verdict::Bad(why) = verdict {
