@@ -1,80 +1,71 @@
--- The printed inverses, fed back last first after the printed text, give the opening text again.
-use mathlib.Core.Path.{_≡_, refl, sym, _∙_, ap, subst}
-use mathlib.Core.Bool.{true}
-use mathlib.Core.List.{List, [], _∷_, _++_, map, reverse}
-use Prim.Native.Nat.{ℕ, _≤_}
-use native.Mathlib.Omega.{arith}
-use lib.ListN.{length, length-replicate}
-use Rattle.promise.specs.Paper.{done}
-use Rattle.promise.proofs.Bools.{T-true}
-use Rattle.text.specs.Text.{allAdmissible}
-use Rattle.edit.specs.Call.{resultOf}
-use Rattle.edit.specs.Demand3.{State as Core, text as textOf, viewAt, lentAt}
-use Rattle.edit.proofs.Accepted.{Ok, ok-fits, ok-admissible}
-use Rattle.edit.proofs.Calls.{accepted-called, exact}
+-- What a script prints takes it back through its texts, and what that prints makes them again.
+use mathlib.Core.Path.{_≡_, sym, _∙_, ap, subst}
+use mathlib.Core.List.{List, _∷_, map, reverse}
+use Prim.Native.Nat.{ℕ}
+use lib.ListN.{length, length-reverse, length-map}
+use Rattle.text.specs.Rows.{lines}
+use Rattle.text.specs.Text.{isLF}
+use Rattle.edit.specs.Edits.{Whole}
+use Rattle.edit.specs.Runs.{Run, edits, inverses}
+use Rattle.edit.specs.Demand3.{State as Core, text, Accepted}
 use Rattle.edit.proofs.Demand3.{reversed, run-ok}
-use Rattle.frame.specs.Format.{text, edit}
-use Rattle.frame.specs.Reads.{frameRead}
-use Rattle.frame.specs.Theorems.{usedOf}
-use Rattle.frame.proofs.Theorems.{reads-written}
-use Rattle.frame.proofs.Inverses.{inverses-have-lines, texts-have-lines}
-use Rattle.marking.specs.MarkLines.{markLines}
-use Rattle.loading.specs.States.{State, textIn, bufferLimit, opening}
-use Rattle.step.specs.Steps.{step}
+use Rattle.edit.proofs.Undo.{alike}
+use Rattle.loading.specs.States.{bufferLimit, opening}
 use Rattle.step.proofs.Framing.{core}
 use Rattle.step.proofs.Callings.{lined}
-use Rattle.step.proofs.TextLines.{opens}
 use Rattle.script.specs.Scripts.{output}
-use Rattle.script.specs.Undo.{script, textLine, accepted, Undone, UndoesScripts}
-use Rattle.script.proofs.Lines.{Plains, runs}
-use Rattle.script.proofs.Readings.{InversesRead}
-use Rattle.script.proofs.Openings.{text-ok, opened, ended}
-use Rattle.script.proofs.Forward.{ran}
-use Rattle.script.proofs.Back.{Returned, returned-lines}
+use Rattle.script.specs.Undo.{script, rows, lastOf, inversesIn, textLine, textLineIn, undo, texts, Undone, UndoesScripts}
+use Rattle.script.proofs.Printings.{found}
+use Rattle.script.proofs.Readings.{AllRead, inverses-read, reverse-read, lines-reverse}
+use Rattle.script.proofs.Openings.{opening-fit, loadedWith, loads-text}
+use Rattle.script.proofs.Forward.{Ran, ran}
+use Rattle.script.proofs.Back.{last-stage, many, played, accepts}
 
--- ---- lines that are read back
+-- the script that takes back what printed these inverses and this text
+undo-is : (w t : List ℕ) (is ws : List (Whole ℕ)) → textLineIn (rows (output w)) ≡ textLine t → inversesIn (rows (output w)) ≡ map lined is → ws ≡ reverse is
+    → undo w ≡ script (textLine t ∷ map lined ws)
+unfolding undo
+undo-is w t is ws e f q = rw (e, f, q, lines-reverse is)
 
-abbrev pub TextsRead : Type 0
-TextsRead = (cs : List ℕ) → allAdmissible cs ≡ true → length cs ≤ bufferLimit → frameRead (textLine cs) ≡ done (text cs)
+-- as many inverses as edits, which were inverses
+as-many : {c v : Core} (r : Run Accepted c v) (is : List (Whole ℕ)) → edits r ≡ reverse is → length (map lined (inverses r)) ≡ length (map lined is)
+as-many r is e = length-map (inverses r) lined ∙ many r ∙ ap length e ∙ length-reverse is ∙ sym (length-map is lined)
 
-texts-read : TextsRead
-unfolding usedOf
-texts-read cs e h = let x = texts-have-lines cs e h in reads-written (text cs) (textLine cs) (x .1) (x .0)
+module _ (w : List ℕ) (d : Ran opening (lines isLF w)) where
+  abbrev t : List ℕ
+  t = text (d .start)
 
-inverses-read : InversesRead
-unfolding resultOf
-inverses-read c w u i h k =
-    let o = exact c in
-    let p : length (o .payload) ≡ length (c .buffer) = length-replicate {A = ℕ} (length (c .buffer)) 0 in
-    let l : length (o .first) ≡ 256 = length-replicate {A = ℕ} 256 0 in
-    let a = k o (record { payload = omega (arith, p); first = omega (arith, l); second = omega (arith, l) }) in
-    let x = inverses-have-lines (viewAt c o) (w .edit) (lentAt c w o) (a .0) (a .1) h (omega (arith, l)) in
-    let q = accepted-called c w u i k .inverse in
-    rw q (reads-written (edit _) (lined _) (x .1) (x .0) ∙ ap done (x .2))
+  abbrev v : List ℕ
+  v = text (d .end)
 
--- ---- the theorem
-
--- from a script's own output and its inverses fed back
-both-ways : (t : List ℕ) (ls is : List (List ℕ)) (u y : State) → Returned y t is
-    → (Plains (reverse is) → output (script (textLine (textIn u) ∷ reverse is)) ≡ runs y (reverse is))
-    → output (script (textLine t ∷ ls)) ≡ script (map accepted is ++ (textLine (textIn u) ∷ [])) ++ markLines (u .marks)
-    → Undone t ls is u
-both-ways t ls is u y z o p = record { prints = p; redos = z .redos; as-many = z .as-many; back = o (z .plain) ∙ z .prints }
+  pub all-undone : Undone w
+  all-undone =
+      let f = found (d .printed) (d .final) (output w) (d .plain) (d .prints) in
+      let q = alike Accepted (λ s e u i h. h .0) (d .taken) in
+      let vk = run-ok bufferLimit (d .taken) (d .held) (d .ok) in
+      let x = loads-text v vk in
+      let y = loads-text t (d .ok) in
+      let b = reversed bufferLimit (d .taken) (d .held) (core (loadedWith v vk)) (x .held) (x .text) in
+      let a = b .redo (core (loadedWith t (d .ok))) (y .held) (y .text) in
+      let fe = ap textLine (ap text (d .ends)) in
+      let wi : inversesIn (rows (output w)) ≡ map lined (inverses (d .taken)) = f .inverses ∙ d .finds in
+      let br : AllRead (edits (b .back)) = rw (b .back-edits) (reverse-read (subst AllRead (q .same-inverses) (inverses-read (q .run) (d .held .long)))) in
+      let ar : AllRead (edits (a .again)) = rw (a .again-edits) (reverse-read (inverses-read (b .back) (x .held .long))) in
+      let bp = played v vk (b .back) br in
+      let ap′ = played t (d .ok) (a .again) ar in
+      let bu = undo-is w v (inverses (d .taken)) (edits (b .back)) (f .text ∙ fe) wi (b .back-edits) in
+      let bt : textLineIn (rows (output (undo w))) ≡ textLine t = rw bu (bp .text-found ∙ ap textLine (last-stage (b .back) ∙ b .ends)) in
+      let bi : inversesIn (rows (output (undo w))) ≡ map lined (inverses (b .back)) = rw bu (bp .inverses-found) in
+      let au = undo-is (undo w) t (inverses (b .back)) (edits (a .again)) bt bi (a .again-edits) in
+      let bn = as-many (b .back) (inverses (d .taken)) (b .back-edits) in
+      let an = as-many (a .again) (inverses (b .back)) (a .again-edits) in
+      record {
+        ends = f .text ∙ fe ∙ ap textLine (sym (rw (q .same-stages) at (last-stage (q .run))) ∙ ap lastOf (sym (d .texts)));
+        back = rw bu (bp .stages-read ∙ b .back-texts ∙ ap reverse (sym (d .texts)));
+        back-accepted = rw bu (accepts w _ _ _ bp (bn ∙ ap length (sym wi)));
+        again = rw au (ap′ .stages-read ∙ a .again-texts ∙ sym (d .texts));
+        again-accepted = rw au (accepts w _ _ _ ap′ (an ∙ bn ∙ ap length (sym wi)));
+      }
 
 pub undoes-scripts : UndoesScripts
-undoes-scripts t ls is u e h x =
-    let tr = texts-read t e h in
-    let o = opens (textLine t) t tr e h in
-    let s = step opening (textLine t) .state in
-    let d = ran inverses-read x (core s) refl (o .held) in
-    let k : Ok bufferLimit (textIn s) = rw (o .text) (text-ok t e h) in
-    let v = textIn u in
-    let vk : Ok bufferLimit v = subst (λ (c : Core). Ok bufferLimit (textOf c)) (sym (d .ends)) (run-ok bufferLimit (d .run) (o .held) k) in
-    let ve = T-true (allAdmissible v) (ok-admissible bufferLimit v vk) in
-    let vh = ok-fits bufferLimit v vk in
-    let vr = texts-read v ve vh in
-    let p = opens (textLine v) v vr ve vh in
-    let y = step opening (textLine v) .state in
-    let b = reversed bufferLimit (d .run) (o .held) (core y) (p .held) (p .text ∙ ap textOf (d .ends)) in
-    let z : Returned y t is = subst (λ (l : List (List ℕ)). Returned y t l) (sym (d .lines)) (returned-lines y (d .run) b (p .marks) (d .read) t (o .text)) in
-    both-ways t ls is u y z (opened v (reverse is) vr ve vh) (opened t ls tr e h (d .plain) ∙ d .prints ∙ ended (map accepted is) u)
+undoes-scripts w u = all-undone w (ran opening (lines isLF w) opening-fit u)
