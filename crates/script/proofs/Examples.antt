@@ -31,5 +31,5 @@ pub examples : RuledOut × TakenBack
 unfolding flatten afterDeleteBlock afterDeleteBlockChunks afterDeleteChar afterDeleteLines afterInsert afterInsertBlock afterJoin startCols applied firstOf leaves resultOf anyFlag blockInserted charsDeleted chunksDeleted chunksOf cutAll editedBy gap inserted joinCols joinFlags joinRow joined lineFrom lineTo linesDeleted padsOf pieces put putAll rangeDeleted replaced split splitFirst splitRow unspace fewOk fewRows payloadOk recordOk roomOk smallOk smallRange sum withinAll withinFirst withinOk chunkBytes columnBytes editBytes frameBytes widthBytes before blockForm blockOf chunksForm columnsIn deleteForm flagged flagsIn formBy insertForm joinForm kindForm lineForm markForm padsIn replaceForm splitForm stringsFrom widthsIn items numberIn ahead contents editOf firstList readForm textOf digitOf hexed isDigit paired unhexed valueOf gapLen framedBy loaded inOrder markLine markLines placed seen lineStep run orderedOk orderedRange selShifted afterDelete shifted answered carried ending ran step clamp endOf inText lastRow lines offset onto rowCount rowLen rowStart unlines admissible all renewed textOk stored prepend readFrom writing begins number octets scalar taken isUndoable rangeUndoable undoable saysYes script starting starts textsFrom undo undoableFrom yes
 examples = (
   record { exact = refl; no-room = refl },
-  record { undoable = refl; printed = refl; stages = refl; back = refl; empty-undoable = refl; empty-stages = refl; past-not = refl },
+  record { undoable = refl; printed = refl; stages = refl; back = refl; empty-undoable = refl; empty-stages = refl; past-not = refl; past-stages = refl; past-back = refl },
 )

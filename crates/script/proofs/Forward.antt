@@ -45,17 +45,15 @@ row-goes s r = go (eqb (length (r .after)) 0) (eqb (length (r .body)) 0)
     go true false = refuses-by same 10 (omega arith) refl
     go false b = line-goes s (r .body)
 
--- all lines, from a state on: the edits start where the last text frame leaves the text
+-- all lines from a state on: the edits that are accepted go from `start`, the text's part once a text frame is loaded, to the end
 pub record Ran (s : State) (rs : List (Line ℕ)) : Type 0 where
   pub start : Core
-  pub end : Core
   pub held : Held bufferLimit start
   pub ok : Ok bufferLimit (text start)
-  pub taken : Run Undoable start end
+  pub final : State
+  pub taken : Run Undoable start (core final)
   pub begun : s .place .sound ≡ true → start ≡ core s
   pub texts : textsFrom s rs ≡ map text (stages taken)
-  pub final : State
-  pub ends : core final ≡ end
   pub printed : List (List ℕ)
   pub plain : Plains printed
   pub prints : run s rs ≡ script printed ++ ending final
@@ -68,14 +66,12 @@ module _ (s : State) (r : Line ℕ) (rs : List (Line ℕ)) where
   unfolding textsFrom run
   stays os p e n b h d = record {
     start = d .start;
-    end = d .end;
     held = d .held;
     ok = d .ok;
+    final = d .final;
     taken = d .taken;
     begun = λ q. d .begun (h q .still-sound q) ∙ h q .same-core;
     texts = rw b (d .texts);
-    final = d .final;
-    ends = d .ends;
     printed = os ++ d .printed;
     plain = both-plain p (d .plain);
     prints = rw (e, d .prints, script-append os (d .printed), append-assoc);
@@ -104,14 +100,12 @@ module _ (s : State) (r : Line ℕ) (rs : List (Line ℕ)) where
       let k : Undoable (core s) (x .edit-read) (d .start) (x .inverse) = rw (d .begun (x .sound)) h in
       record {
         start = core s;
-        end = d .end;
         held = f .held;
         ok = f .ok;
+        final = d .final;
         taken = then k (d .taken);
         begun = λ q. refl;
         texts = rw (accepted-starts x) (ap {B = List (List ℕ)} (λ ts. textIn s ∷ ts) (d .texts));
-        final = d .final;
-        ends = d .ends;
         printed = accepted (lined (x .inverse)) ∷ d .printed;
         plain = more (accepted-plain (frameBytes (edit (x .inverse)))) (d .plain);
         prints = printed-more (accepted (lined (x .inverse))) (lineStep s r .printed) (run (lineStep s r .state) rs) (ending (d .final)) (d .printed) (accepted-line x) (d .prints);
@@ -141,8 +135,8 @@ module _ (s : State) (r : Line ℕ) (rs : List (Line ℕ)) where
           takes x f h (next (record { held = run-held bufferLimit (then h stop) (f .held); ok = run-ok bufferLimit (then h stop) (f .held) (f .ok) }) later)
       go (loads x) =
           let n : length (s .buffer) ≡ bufferLimit = f .held .long in
-          let k : Fit (lineStep s r .state) = record { held = subst (λ (m : ℕ). Held m (core (lineStep s r .state))) n (x .loads .held); ok = rw (x .loads .text) (text-ok (x .chars-read) (x .admitted) (omega (arith, x .fits))) } in
-          stays [] none (x .loads .prints) refl (rw (x .loads .prints) nothing-starts) (λ q. absurd (clash q (x .first))) (next k later)
+          let k : Fit (lineStep s r .state) = record { held = subst (λ (m : ℕ). Held m (core (lineStep s r .state))) n (x .leaves .held); ok = rw (x .leaves .text) (text-ok (x .chars-read) (x .admitted) (omega (arith, x .fits))) } in
+          stays [] none (x .leaves .prints) refl (rw (x .leaves .prints) nothing-starts) (λ q. absurd (clash q (x .first))) (next k later)
       go (keeps h p) = stays [] none p refl (rw p nothing-starts) (λ q. h) (next (same-fit h) later)
       go (refuses-by h n k p) =
           let b : starts 48 (hexed (n ∷ [])) ≡ false = byte-starts n [] k in
@@ -152,14 +146,12 @@ pub ran : (s : State) (rs : List (Line ℕ)) → Fit s → undoableFrom s rs ≡
 unfolding textsFrom run stages inverses script starting
 ran s [] f u = record {
   start = core s;
-  end = core s;
   held = f .held;
   ok = f .ok;
+  final = s;
   taken = stop;
   begun = λ h. refl;
   texts = refl;
-  final = s;
-  ends = refl;
   printed = [];
   plain = none;
   prints = refl;

@@ -50,9 +50,9 @@ front = hexed (0x02 ∷ (position (at 0 0) ++ position (at 0 0)))
 abbrev pub sample : List ℕ
 sample = script ((120 ∷ []) ∷ textLine (97 ∷ 10 ∷ 98 ∷ []) ∷ front ∷ join ∷ tooBig ∷ putX ∷ [])
 
--- "ab/" and the delete from (0,9) to (1,0), which begins past the end of its row
+-- "a/b" and the delete from (0,9) to (1,0), which begins past the end of its row
 abbrev pub past : List ℕ
-past = script (textLine (97 ∷ 98 ∷ 10 ∷ []) ∷ hexed (0x11 ∷ 0 ∷ (position (at 0 9) ++ position (at 1 0))) ∷ [])
+past = script (textLine (97 ∷ 10 ∷ 98 ∷ []) ∷ hexed (0x11 ∷ 0 ∷ (position (at 0 9) ++ position (at 1 0))) ∷ [])
 
 pub record TakenBack : Type 0 where
   pub undoable : allUndoable sample ≡ true
@@ -62,5 +62,7 @@ pub record TakenBack : Type 0 where
   -- without a text frame
   pub empty-undoable : allUndoable (script (putX ∷ [])) ≡ true
   pub empty-stages : texts (script (putX ∷ [])) ≡ [] ∷ (120 ∷ []) ∷ []
-  -- what the hypothesis keeps out
+  -- what the hypothesis keeps out: the break comes back behind b
   pub past-not : allUndoable past ≡ false
+  pub past-stages : texts past ≡ (97 ∷ 10 ∷ 98 ∷ []) ∷ (97 ∷ 98 ∷ []) ∷ []
+  pub past-back : texts (undo past) ≡ (97 ∷ 98 ∷ []) ∷ (97 ∷ 98 ∷ 10 ∷ []) ∷ []

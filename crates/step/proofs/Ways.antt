@@ -49,12 +49,12 @@ pub record Loads (s : State) (l : List ℕ) (x : Stepped) : Type 0 where
   pub first : s .place .sound ≡ false
   pub admitted : allAdmissible chars-read ≡ true
   pub fits : length chars-read ≤ length (s .buffer)
-  pub loads : Loaded (length (s .buffer)) chars-read (s .marks) x
+  pub leaves : Loaded (length (s .buffer)) chars-read (s .marks) x
 
+-- an edit or a text is accepted; or the text stays as it is, and nothing is printed, as for a mark, or a refusal
 pub data Goes (s : State) (l : List ℕ) (x : Stepped) : Type 0 where
   edits : Edits s l x → Goes s l x
   loads : Loads s l x → Goes s l x
-  -- a mark
   keeps : Same s (x .state) → x .printed ≡ [] → Goes s l x
   refuses-by : Same s (x .state) → (n : ℕ) → 0 < n → x .printed ≡ printedAs (n ∷ []) → Goes s l x
 
@@ -74,7 +74,7 @@ module _ (s : State) (l : List ℕ) where
       go true true e k = rw (e, k) (refused-by p stays 8 (omega arith))
       go true false e k =
           let h : length cs ≤ length (s .buffer) = ltb-false (length (s .buffer)) (length cs) k in
-          loads (record { chars-read = cs; reads = r; first = f; admitted = e; fits = h; loads = load (length (s .buffer)) (sees s p) cs refl e h })
+          loads (record { chars-read = cs; reads = r; first = f; admitted = e; fits = h; leaves = load (length (s .buffer)) (sees s p) cs refl e h })
 
   edit-goes : (p : Place) → p .sound ≡ true → (w : Whole ℕ) → frameRead l ≡ done (format.edit w) → Goes s l (edited (sees s p) w)
   unfolding answered
