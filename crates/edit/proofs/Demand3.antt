@@ -68,36 +68,60 @@ read n (step {s = s} {u = u} {e = w} {i = i} h r) k =
 
 -- ---- the theorem
 
-held-undone : (n : ℕ) {s u : State} (r : Run Undoable s u) → Held n s → Undone Accepted r
-held-undone n {s} {u} r k =
-    let d = read n r k in
-    let t = undone-texts n (d .run) in
-    let b = carried n (t .back) u (d .held) refl in
-    let a = carried n (t .again) (b .end) (b .held) (b .ends) in
-    record {
-      origin = b .end;
-      back = b .run;
-      back-edits = b .same-edits ∙ t .back-edits ∙ ap reverse (d .same-inverses);
-      back-texts = b .same-texts ∙ t .back-stages ∙ ap reverse (d .same-texts);
-      final = a .end;
-      again = a .run;
-      again-edits = a .same-edits ∙ t .again-edits ∙ ap reverse (sym (b .same-inverses));
-      again-texts = a .same-texts ∙ t .again-stages ∙ d .same-texts;
-    }
+-- the inverses that a run of inverses gave, last first, from y
+pub record Again {s u x v : State} (r : Run Undoable s u) (back : Run Accepted x v) (y : State) : Type 0 where
+  pub final : State
+  pub again : Run Accepted y final
+  pub again-edits : edits again ≡ reverse (inverses back)
+  pub again-texts : map text (stages again) ≡ map text (stages r)
 
--- the inverses last first, from any state that has the text which the run ended with
-pub record Reversed {s u : State} (r : Run Undoable s u) (x : State) : Type 0 where
+-- the inverses of a run last first, from any state that has the text which the run ended with, and theirs from any that has the text
+-- which it began with
+pub record Reversed (n : ℕ) {s u : State} (r : Run Undoable s u) (x : State) : Type 0 where
   pub origin : State
+  pub held : Held n origin
+  pub ends : text origin ≡ text s
   pub back : Run Accepted x origin
   pub back-edits : edits back ≡ reverse (inverses r)
-  pub ends : text origin ≡ text s
+  pub back-texts : map text (stages back) ≡ reverse (map text (stages r))
+  pub redo : (y : State) → Held n y → text y ≡ text s → Again r back y
 
-pub reversed : (n : ℕ) {s u : State} (r : Run Undoable s u) → Held n s → (x : State) → Held n x → text x ≡ text u → Reversed r x
-reversed n r k x h e =
+pub reversed : (n : ℕ) {s u : State} (r : Run Undoable s u) → Held n s → (x : State) → Held n x → text x ≡ text u → Reversed n r x
+reversed n {s} r k x h e =
     let d = read n r k in
     let t = undone-texts n (d .run) in
     let b = carried n (t .back) x h e in
-    record { origin = b .end; back = b .run; back-edits = b .same-edits ∙ t .back-edits ∙ ap reverse (d .same-inverses); ends = b .ends }
+    record {
+      origin = b .end;
+      held = b .held;
+      ends = b .ends;
+      back = b .run;
+      back-edits = b .same-edits ∙ t .back-edits ∙ ap reverse (d .same-inverses);
+      back-texts = b .same-texts ∙ t .back-stages ∙ ap reverse (d .same-texts);
+      redo = λ y g q.
+          let a = carried n (t .again) y g q in
+          record {
+            final = a .end;
+            again = a .run;
+            again-edits = a .same-edits ∙ t .again-edits ∙ ap reverse (sym (b .same-inverses));
+            again-texts = a .same-texts ∙ t .again-stages ∙ d .same-texts;
+          };
+    }
+
+held-undone : (n : ℕ) {s u : State} (r : Run Undoable s u) → Held n s → Undone Accepted r
+held-undone n {s} {u} r k =
+    let b = reversed n r k u (read n r k .held) refl in
+    let a = b .redo (b .origin) (b .held) (b .ends) in
+    record {
+      origin = b .origin;
+      back = b .back;
+      back-edits = b .back-edits;
+      back-texts = b .back-texts;
+      final = a .final;
+      again = a .again;
+      again-edits = a .again-edits;
+      again-texts = a .again-texts;
+    }
 
 -- a run from a text that a buffer admits ends with one
 starts-ok : (n : ℕ) {t v : List ℕ} → Run (Step n) t v → Ok n v → Ok n t

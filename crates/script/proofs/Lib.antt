@@ -1,7 +1,9 @@
 pub mod Lines
+pub mod Printings
 pub mod Readings
 pub mod Openings
 pub mod Forward
+pub mod Firsts
 pub mod Back
 pub mod Undo
 pub mod Goings

@@ -1,75 +1,63 @@
--- The printed inverses, fed back last first after the printed text, give the opening text again.
-use mathlib.Core.Path.{_≡_, refl, sym, _∙_, ap, subst}
-use mathlib.Core.Bool.{true}
-use mathlib.Core.List.{List, [], _∷_, _++_, map, reverse}
-use Prim.Native.Nat.{ℕ, _≤_}
-use lib.ListN.{length}
-use Rattle.promise.specs.Paper.{done}
-use Rattle.promise.proofs.Bools.{T-true}
-use Rattle.text.specs.Text.{allAdmissible}
-use Rattle.edit.specs.Call.{resultOf}
-use Rattle.edit.specs.Demand3.{State as Core, text as textOf, viewAt, lentAt}
-use Rattle.edit.proofs.Accepted.{Ok, ok-fits, ok-admissible}
-use Rattle.edit.proofs.Calls.{with-called}
+-- What a script prints takes it back through its texts, and what that prints makes them again.
+use mathlib.Core.Path.{_≡_, sym, _∙_, ap, subst}
+use mathlib.Core.List.{List, map, reverse}
+use Prim.Native.Nat.{ℕ}
+use lib.ListN.{length, length-reverse, length-map}
+use Rattle.text.specs.Rows.{lines}
+use Rattle.text.specs.Text.{isLF}
+use Rattle.edit.specs.Edits.{Whole}
+use Rattle.edit.specs.Runs.{Run, edits, inverses, stages}
+use Rattle.edit.specs.Demand3.{State as Core, text, Accepted}
+use Rattle.edit.proofs.Accepted.{Ok}
+use Rattle.edit.proofs.Calls.{accepted-once}
 use Rattle.edit.proofs.Demand3.{reversed, run-ok}
-use Rattle.frame.specs.Format.{text, edit}
-use Rattle.frame.specs.Reads.{frameRead}
-use Rattle.frame.specs.Theorems.{usedOf}
-use Rattle.frame.proofs.Theorems.{reads-written}
-use Rattle.frame.proofs.Inverses.{inverses-have-lines, texts-have-lines}
-use Rattle.marking.specs.MarkLines.{markLines}
-use Rattle.loading.specs.States.{State, textIn, bufferLimit, opening}
-use Rattle.step.specs.Steps.{step}
+use Rattle.edit.proofs.Undo.{alike}
+use Rattle.loading.specs.States.{textIn, bufferLimit, opening}
 use Rattle.step.proofs.Framing.{core}
 use Rattle.step.proofs.Callings.{lined}
-use Rattle.step.proofs.TextLines.{opens}
 use Rattle.script.specs.Scripts.{output}
-use Rattle.script.specs.Undo.{script, textLine, accepted, Undone, UndoesScripts}
-use Rattle.script.proofs.Lines.{Plains, runs}
-use Rattle.script.proofs.Readings.{InversesRead}
-use Rattle.script.proofs.Openings.{text-ok, opened, ended}
-use Rattle.script.proofs.Forward.{ran}
-use Rattle.script.proofs.Back.{Returned, returned-lines}
+use Rattle.script.specs.Undo.{rows, lastOf, inversesIn, textLine, textLineIn, undo, Undone, UndoesScripts}
+use Rattle.script.proofs.Printings.{found}
+use Rattle.script.proofs.Readings.{AllRead, inverses-read, reverse-read, lines-reverse}
+use Rattle.script.proofs.Openings.{opening-fit, loadedWith, loads-text}
+use Rattle.script.proofs.Forward.{Ran, ran}
+use Rattle.script.proofs.Back.{last-stage, many, Played, played, accepts}
 
--- ---- lines that are read back
+-- what w printed, as a script: the text t, and some inverses last first
+replayed : (w t : List ℕ) (k : Ok bufferLimit t) (is : List (Whole ℕ)) → textLineIn (rows (output w)) ≡ textLine t → inversesIn (rows (output w)) ≡ map lined is → AllRead is
+    → {v : Core} (r : Run Accepted (core (loadedWith t k)) v) → edits r ≡ reverse is → Played (undo w) (map lined (inverses r)) (map text (stages r))
+unfolding undo
+replayed w t k is e f a r q = rw (e, f, lines-reverse is, ← q) (played t k r (rw q (reverse-read a)))
 
-abbrev pub TextsRead : Type 0
-TextsRead = (cs : List ℕ) → allAdmissible cs ≡ true → length cs ≤ bufferLimit → frameRead (textLine cs) ≡ done (text cs)
+-- as many inverses as edits, which were inverses
+as-many : {c v : Core} (r : Run Accepted c v) (is : List (Whole ℕ)) → edits r ≡ reverse is → length (map lined (inverses r)) ≡ length (map lined is)
+as-many r is e = length-map (inverses r) lined ∙ many r ∙ ap length e ∙ length-reverse is ∙ sym (length-map is lined)
 
-texts-read : TextsRead
-unfolding usedOf
-texts-read cs e h = let x = texts-have-lines cs e h in reads-written (text cs) (textLine cs) (x .1) (x .0)
-
-inverses-read : InversesRead
-unfolding resultOf
-inverses-read o c w u i h k =
-    let x = inverses-have-lines (viewAt c o) (w .edit) (lentAt c w o) (k .0) (k .1) h in
-    let q = with-called o c w u i k .inverse in
-    rw q (reads-written (edit _) (lined _) (x .1) (x .0) ∙ ap done (x .2))
-
--- ---- the theorem
-
--- from a script's own output and its inverses fed back
-both-ways : (t : List ℕ) (ls is : List (List ℕ)) (u y : State) → Returned y t is
-    → (Plains (reverse is) → output (script (textLine (textIn u) ∷ reverse is)) ≡ runs y (reverse is))
-    → output (script (textLine t ∷ ls)) ≡ script (map accepted is ++ (textLine (textIn u) ∷ [])) ++ markLines (u .marks)
-    → Undone t ls is u
-both-ways t ls is u y z o p = record { prints = p; redos = z .redos; as-many = z .as-many; back = o (z .plain) ∙ z .prints }
+undone : (w : List ℕ) → Ran opening (lines isLF w) → Undone w
+undone w d =
+    let t = text (d .start) in
+    let v = textIn (d .final) in
+    let k = run-ok bufferLimit (d .taken) (d .held) (d .ok) in
+    let x = loads-text v k in
+    let y = loads-text t (d .ok) in
+    let b = reversed bufferLimit (d .taken) (d .held) (core (loadedWith v k)) (x .held) (x .text) in
+    let a = b .redo (core (loadedWith t (d .ok))) (y .held) (y .text) in
+    let c = alike Accepted (λ s e u i h. accepted-once (h .0) s e u i (h .1)) (d .taken) in
+    let f = found (d .printed) (d .final) (output w) (d .plain) (d .prints) in
+    let is = inverses (d .taken) in
+    let e : inversesIn (rows (output w)) ≡ map lined is = f .inverses ∙ d .finds in
+    let p = replayed w v k is (f .text) e (subst AllRead (c .same-inverses) (inverses-read (c .run) (d .held .long))) (b .back) (b .back-edits) in
+    let js = inverses (b .back) in
+    let g : textLineIn (rows (output (undo w))) ≡ textLine t = p .text-found ∙ ap textLine (last-stage (b .back) ∙ b .ends) in
+    let q = replayed (undo w) t (d .ok) js g (p .inverses-found) (inverses-read (b .back) (x .held .long)) (a .again) (a .again-edits) in
+    let n = as-many (b .back) is (b .back-edits) ∙ ap length (sym e) in
+    record {
+      ends = f .text ∙ ap textLine (sym (rw (c .same-stages) at (last-stage (c .run))) ∙ ap lastOf (sym (d .texts)));
+      back = p .stages-read ∙ b .back-texts ∙ ap reverse (sym (d .texts));
+      back-accepted = accepts w (undo w) (map lined js) (map text (stages (b .back))) p n;
+      again = q .stages-read ∙ a .again-texts ∙ sym (d .texts);
+      again-accepted = accepts w (undo (undo w)) (map lined (inverses (a .again))) (map text (stages (a .again))) q (as-many (a .again) js (a .again-edits) ∙ n);
+    }
 
 pub undoes-scripts : UndoesScripts
-undoes-scripts t ls is u e h x =
-    let tr = texts-read t e h in
-    let o = opens (textLine t) t tr e h in
-    let s = step opening (textLine t) .state in
-    let d = ran inverses-read x (core s) refl (o .held) in
-    let k : Ok bufferLimit (textIn s) = rw (o .text) (text-ok t e h) in
-    let v = textIn u in
-    let vk : Ok bufferLimit v = subst (λ (c : Core). Ok bufferLimit (textOf c)) (sym (d .ends)) (run-ok bufferLimit (d .run) (o .held) k) in
-    let ve = T-true (allAdmissible v) (ok-admissible bufferLimit v vk) in
-    let vh = ok-fits bufferLimit v vk in
-    let vr = texts-read v ve vh in
-    let p = opens (textLine v) v vr ve vh in
-    let y = step opening (textLine v) .state in
-    let b = reversed bufferLimit (d .run) (o .held) (core y) (p .held) (p .text ∙ ap textOf (d .ends)) in
-    let z : Returned y t is = subst (λ (l : List (List ℕ)). Returned y t l) (sym (d .lines)) (returned-lines y (d .run) b (p .marks) (d .read) t (o .text)) in
-    both-ways t ls is u y z (opened v (reverse is) vr ve vh) (opened t ls tr e h (d .plain) ∙ d .prints ∙ ended (map accepted is) u)
+undoes-scripts w u = undone w (ran opening (lines isLF w) opening-fit u)

@@ -1,18 +1,17 @@
 -- An edit line as a call.
-use mathlib.Core.Path.{_≡_, refl, sym, _∙_}
+use mathlib.Core.Path.{_≡_, refl}
 use mathlib.Core.Bool.{true}
-use mathlib.Core.List.{List, [], _∷_, _++_, map, append-cancel-right}
-use Prim.Native.Nat.{ℕ, _/_, _%_}
+use mathlib.Core.List.{List, _∷_, map}
+use Prim.Native.Nat.{ℕ}
 use native.Mathlib.Omega.{arith}
 use lib.ListN.{length, replicate, length-replicate}
-use Rattle.promise.specs.Paper.{Paper, done, refused}
+use Rattle.promise.specs.Paper.{Paper, done}
 use Rattle.edit.specs.declared.Applied.{Applied}
 use Rattle.edit.specs.Edits.{Whole}
 use Rattle.edit.specs.Call.{Outcome, undoable}
 use Rattle.edit.specs.Demand3.{State as Core, Beside, RecordRoom, called, after, returned, Accepted, Undoable}
-use Rattle.edit.proofs.Calls.{accepted-once, refused-number}
-use Rattle.hex.specs.Digits.{digitOf, hexed}
-use Rattle.hex.proofs.Zeros.{zero-byte, hexed-zero}
+use Rattle.edit.proofs.Calls.{accepted-once}
+use Rattle.hex.specs.Digits.{hexed}
 use Rattle.frame.specs.Format.{edit, frameBytes}
 use Rattle.printing.specs.Prints.{printedAs}
 use Rattle.marking.proofs.Orders.{applied-same}
@@ -34,7 +33,7 @@ module _ (s : State) (w : Whole ℕ) where
   abbrev o : Outcome
   o = called (core s) w (beside s)
 
-  edited-called : (p : Paper Applied) → o .answer ≡ p → edited s w ≡ answered s (ordered w) o p
+  pub edited-called : (p : Paper Applied) → o .answer ≡ p → edited s w ≡ answered s (ordered w) o p
   unfolding ran
   edited-called p e = rw (applied-same (s .view) (w .edit) (lentTo s w), e)
 
@@ -57,40 +56,9 @@ module _ (s : State) (w : Whole ℕ) where
       let e = edited-called (done (c .0)) (c .1) in
       record { state = rw e (c .2); prints = rw (e, c .3); marks = rw e }
 
-  -- an edit that prints a line of 00 and something was accepted, and that is its inverse
-  pub record Prints (i : List ℕ) : Type 0 where
-    pub inverse : Whole ℕ
-    pub accepted : Accepted (core s) w (core (edited s w .state)) inverse
-    pub line : i ≡ lined inverse
-
   -- an accepted call is an accepted edit, with what the call returned
   pub once : (a : Applied) → o .answer ≡ done a → Accepted (core s) w (after a o) (returned a o)
   once a e = accepted-once (beside s) (core s) w (after a o) (returned a o) (a, e, refl, refl)
-
-  printed-done : (i : List ℕ) (a : Applied) → o .answer ≡ done a → edited s w .printed ≡ (48 ∷ 48 ∷ i) ++ (10 ∷ []) → Prints i
-  unfolding answered
-  printed-done i a e h =
-      let q = edited-called (done a) e in
-      let k : printedAs (0 ∷ frameBytes (edit (returned a o))) ≡ (48 ∷ 48 ∷ i) ++ (10 ∷ []) = rw q at h in
-      let z = append-cancel-right _ _ _ k in
-      let j : 48 ∷ 48 ∷ lined (returned a o) ≡ 48 ∷ 48 ∷ i = sym (hexed-zero (frameBytes (edit (returned a o)))) ∙ z in
-      record { inverse = returned a o; accepted = rw q (once a e); line = cc }
-
-  printed-refused : (i : List ℕ) (n k : ℕ) → o .answer ≡ refused n k → edited s w .printed ≡ (48 ∷ 48 ∷ i) ++ (10 ∷ []) → ⊥
-  unfolding answered hexed
-  printed-refused i n k e h =
-      let q = edited-called (refused n k) e in
-      let j : digitOf (n / 16) ∷ digitOf (n % 16) ∷ 10 ∷ [] ≡ 48 ∷ 48 ∷ (i ++ (10 ∷ [])) = rw q at h in
-      let a : digitOf (n / 16) ≡ 48 = cc in
-      let b : digitOf (n % 16) ≡ 48 = cc in
-      omega (arith, zero-byte n a b, refused-number (core s) w (beside s) n k e)
-
-  pub printed : (i : List ℕ) → edited s w .printed ≡ (48 ∷ 48 ∷ i) ++ (10 ∷ []) → Prints i
-  printed i h = go (o .answer) refl
-    where
-      go : (p : Paper Applied) → o .answer ≡ p → Prints i
-      go (done a) e = printed-done i a e h
-      go (refused n k) e = absurd (printed-refused i n k e h)
 
   pub undoable-called : undoable (s .view) (w .edit) (lentTo s w) ≡ done true → (u : Core) (i : Whole ℕ) → Accepted (core s) w u i → Undoable (core s) w u i
   undoable-called h u i a = (beside s, a (beside s) room, h)

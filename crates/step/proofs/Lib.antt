@@ -1,6 +1,7 @@
 pub mod Framing
 pub mod Callings
 pub mod TextLines
+pub mod Ways
 pub mod Admitted
 pub mod Readies
 pub mod Shifts
