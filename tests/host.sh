@@ -26,6 +26,9 @@ compare() { # SIZE
 tests/c.sh | tee "$log"
 add
 
+tests/needs.sh | tee "$log"
+add
+
 cargo test --release --offline --manifest-path host/Cargo.toml 2>&1 | tee "$log"
 awk '/^test result: ok\. [0-9]+ passed; 0 failed/ { n += $4 } END { print n + 0 " passed, 0 failed" }' "$log" | tee -a "$log"
 add
