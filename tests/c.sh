@@ -13,8 +13,8 @@ if ! [ -f "$archive" ]; then
 fi
 warnings=(-Wall -Wextra -Werror -pedantic)
 
-gcc -x c -std=c99 "${warnings[@]}" -fsyntax-only include/winchbarn.h
-g++ -x c++ "${warnings[@]}" -fsyntax-only include/winchbarn.h
+gcc -x c -std=c99 "${warnings[@]}" -Iinclude -fsyntax-only - <<<'#include "winchbarn.h"'
+g++ -x c++ "${warnings[@]}" -Iinclude -fsyntax-only - <<<'#include "winchbarn.h"'
 
 mkdir -p target/c
 gcc -std=c99 "${warnings[@]}" -Iinclude -o target/c/calls tests/c/calls.c "$archive"
