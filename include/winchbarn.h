@@ -169,17 +169,32 @@ typedef struct {
     uint32_t count;
 } winchbarn_edit;
 
+/* What an edit does. A place is brought into the text as winchbarn_clamp_position has it. */
 enum {
+    /* Puts one character in at start, brought into the text. */
     WINCHBARN_INSERT_CHAR = 0,
+    /* Puts the payload in at start, brought into the text. */
     WINCHBARN_INSERT_STR = 1,
+    /* Deletes the characters from the earlier of start and end up to the later, both brought into the text. */
     WINCHBARN_DELETE_CHAR = 2,
+    /* Deletes the rows between start.row and end.row, these two included, both brought into the text. */
     WINCHBARN_DELETE_LINE = 3,
+    /* Deletes the rectangle with the corners start and end, both of them in it, as far as there are such rows and columns. */
     WINCHBARN_DELETE_BLOCK = 4,
+    /* Joins start.row, brought into the text, with the next row, count times, or once for 0; it stops at the last row. */
     WINCHBARN_JOIN_LINES = 5,
+    /* The same, with a space put between two parts that are both non-empty. */
     WINCHBARN_JOIN_LINES_SPACED = 6,
+    /* Splits start.row, brought into the text, at the columns, last first. A flag says whether a space that stands there goes, and is 0
+     * where it is missing; with 0 the column is brought into the row. */
     WINCHBARN_SPLIT_LINES = 7,
+    /* Deletes as DELETE_CHAR, then puts the payload in at the earlier of start and end, brought into what is left. */
     WINCHBARN_REPLACE = 8,
+    /* Puts a chunk into each row from start.row down, at start.col, up to which a shorter row is filled with spaces; rows that are not
+     * there are passed over. */
     WINCHBARN_INSERT_BLOCK = 9,
+    /* Cuts each row from start.row down, as far as it is there, from start.col less its pad up to start.col and its width. A pad is 0 where
+     * it is missing. */
     WINCHBARN_DELETE_BLOCK_CHUNKS = 10
 };
 

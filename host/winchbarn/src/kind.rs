@@ -3,31 +3,34 @@
 use crate::Refusal;
 
 /// What an edit does. The comment of each kind names what it uses of the edit's numbers, payload and lists; the rest is not
-/// read.
+/// read. A place is brought into the text as [`clamp_position`](crate::clamp_position) has it.
 #[repr(u32)]
 #[derive(Clone, Copy, Debug, PartialEq, Eq, Hash)]
 pub enum Kind {
-    /// Puts one character in at `start`; the payload is that character.
+    /// Puts one character, the payload, in at `start`, brought into the text.
     InsertChar = 0,
-    /// Puts the payload in at `start`.
+    /// Puts the payload in at `start`, brought into the text.
     InsertStr = 1,
-    /// Deletes the characters from `start` up to `end`.
+    /// Deletes the characters from the earlier of `start` and `end` up to the later, both brought into the text.
     DeleteChar = 2,
-    /// Deletes the rows from `start.row` to `end.row`, both of them.
+    /// Deletes the rows between `start.row` and `end.row`, these two included, both brought into the text.
     DeleteLine = 3,
-    /// Deletes the rectangle with the corners `start` and `end`, both of them in it.
+    /// Deletes the rectangle with the corners `start` and `end`, both of them in it, as far as there are such rows and columns.
     DeleteBlock = 4,
-    /// Makes `count` joins at `start.row`, with nothing between the rows.
+    /// Joins `start.row`, brought into the text, with the next row, `count` times, or once for 0; it stops at the last row.
     JoinLines = 5,
-    /// Makes `count` joins at `start.row`, with a space between rows that are both non-empty.
+    /// The same, with a space put between two parts that are both non-empty.
     JoinLinesSpaced = 6,
-    /// Splits `start.row`; the first list has the columns, the second whether a space goes: 0, or not.
+    /// Splits `start.row`, brought into the text, at the columns of the first list, last first. The second list says of each whether
+    /// a space that stands there goes: 0, or not; where it has no item, 0. With 0 the column is brought into the row.
     SplitLines = 7,
-    /// Puts the payload in the place of the characters from `start` up to `end`.
+    /// Deletes as [`Kind::DeleteChar`], then puts the payload in at the earlier of `start` and `end`, brought into what is left.
     Replace = 8,
-    /// Puts a chunk in each row from `start` down; the payload is the chunks in a row, the first list their lengths.
+    /// Puts a chunk into each row from `start.row` down, at `start.col`, up to which a shorter row is filled with spaces; rows that
+    /// are not there are passed over. The payload is the chunks, one behind another, the first list their lengths.
     InsertBlock = 9,
-    /// Makes a cut in each row from `start` down; the first list has the widths, the second the pads.
+    /// Cuts each row from `start.row` down, as far as it is there, from `start.col` less its pad up to `start.col` and its width. The
+    /// first list has the widths, the second the pads; where it has no item, 0.
     DeleteBlockChunks = 10,
 }
 
