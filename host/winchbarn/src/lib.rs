@@ -254,8 +254,9 @@ pub fn box_fit(text: &[u32], used: usize, cells: u32) -> Result<Option<Position>
     found(raw::box_fit(text, used, cells))
 }
 
-/// Where a position stands once the edit has been made to the view's text; `None` for [`Kind::SplitLines`], over which nothing
-/// is followed, and for no other kind. Refuses by 1, 2, 3, 4, 6. Stack: [`stack::SHIFT_POSITION`].
+/// Where a position goes when the edit is made to the view's text; the pads of [`Kind::DeleteBlockChunks`] are left out of
+/// account. `None` for [`Kind::SplitLines`], over which nothing is followed, and for no other kind. Refuses by 1, 2, 3, 4, 6.
+/// Stack: [`stack::SHIFT_POSITION`].
 pub fn shift_position(
     text: &[u32],
     view: View,
@@ -276,7 +277,7 @@ pub fn shift_position(
     ))
 }
 
-/// Where both ends of a selection stand once the edit has been made; they are judged together and not put in order. Answers
+/// Where both ends of a selection go when the edit is made; they are judged together and not put in order. Answers
 /// `None` and refuses as [`shift_position`]. Stack: [`stack::SHIFT_SEL`].
 pub fn shift_sel(
     text: &[u32],
