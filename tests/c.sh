@@ -1,5 +1,5 @@
 #!/usr/bin/env bash
-# Calls the archive from C (tests/c/calls.c) and reads the header as C++. Its last line says how many checks passed.
+# Reads the header alone as C and as C++, and calls the archive from C (tests/c/calls.c). Its last line says how many checks passed.
 set -euo pipefail
 cd "$(dirname "${BASH_SOURCE[0]}")/.."
 part=native
@@ -13,7 +13,8 @@ if ! [ -f "$archive" ]; then
 fi
 warnings=(-Wall -Wextra -Werror -pedantic)
 
-g++ -x c++ "${warnings[@]}" -fsyntax-only include/winchbarn.h
+gcc -x c -std=c99 "${warnings[@]}" -Iinclude -fsyntax-only - <<<'#include "winchbarn.h"'
+g++ -x c++ "${warnings[@]}" -Iinclude -fsyntax-only - <<<'#include "winchbarn.h"'
 
 mkdir -p target/c
 gcc -std=c99 "${warnings[@]}" -Iinclude -o target/c/calls tests/c/calls.c "$archive"

@@ -26,6 +26,13 @@ compare() { # SIZE
 tests/c.sh | tee "$log"
 add
 
+tests/needs.sh | tee "$log"
+add
+
+# The documentation needs no archive.
+WINCHBARN_LIB_DIR=$PWD/target/nowhere RUSTDOCFLAGS="-D warnings" cargo doc --offline --no-deps --manifest-path host/Cargo.toml --target-dir target/documented -p winchbarn
+passed=$((passed + 1))
+
 cargo test --release --offline --manifest-path host/Cargo.toml 2>&1 | tee "$log"
 awk '/^test result: ok\. [0-9]+ passed; 0 failed/ { n += $4 } END { print n + 0 " passed, 0 failed" }' "$log" | tee -a "$log"
 add

@@ -1,8 +1,7 @@
-//! Links the archive of the proved core.
+//! Links the archive of the proved core into what is linked with this crate. What links nothing, as documentation, does without it.
 
 use std::env;
 use std::path::{self, PathBuf};
-use std::process::exit;
 
 const ARCHIVE: &str = "libwinchbarn.a";
 
@@ -24,12 +23,12 @@ fn main() {
     let archive = dir.join(ARCHIVE);
     println!("cargo:rerun-if-changed={}", archive.display());
     if !archive.is_file() {
-        eprintln!(
-            "{} is not there: run `tests/archive.sh` in the repository's root",
+        println!(
+            "cargo:warning={} is not there, and nothing can be linked: run `tests/archive.sh` in the repository's root",
             archive.display()
         );
-        exit(1);
     }
     println!("cargo:rustc-link-search=native={}", dir.display());
-    println!("cargo:rustc-link-lib=static=winchbarn");
+    // Not bundled into the library, so that the archive is looked for when a program is linked.
+    println!("cargo:rustc-link-lib=static:-bundle=winchbarn");
 }

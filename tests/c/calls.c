@@ -5,7 +5,6 @@
 #include <string.h>
 
 #define LENGTH(array) (sizeof(array) / sizeof((array)[0]))
-#define LIST_LIMIT 256
 
 typedef struct {
     const char *name;
@@ -44,6 +43,21 @@ static bool layouts(void) {
            sizeof(winchbarn_said) == 8;
 }
 
+/* Each refusal has a name and a meaning of its own, and no other number has one. */
+static bool refusals(void) {
+    bool named = strcmp(winchbarn_refusal_name(WINCHBARN_BAD_TEXT), "BadText") == 0 &&
+                 strcmp(winchbarn_refusal_name(WINCHBARN_BAD_FRAME), "BadFrame") == 0;
+    for (uint32_t i = 0; i <= WINCHBARN_BAD_FRAME + 1; i++) {
+        bool row = i >= WINCHBARN_BAD_TEXT && i <= WINCHBARN_BAD_FRAME;
+        named = named && (*winchbarn_refusal_name(i) != 0) == row && (*winchbarn_refusal_meaning(i) != 0) == row;
+        for (uint32_t k = WINCHBARN_BAD_TEXT; k < i && row; k++) {
+            named = named && strcmp(winchbarn_refusal_name(i), winchbarn_refusal_name(k)) != 0 &&
+                    strcmp(winchbarn_refusal_meaning(i), winchbarn_refusal_meaning(k)) != 0;
+        }
+    }
+    return named;
+}
+
 static bool run_script(void) {
     static const char input[] = "0161620a6364\n0200000001000000010000000100000002\n100000000000000001580a\n";
     static const char printed[] = "00110000000000000000010000000100000000\n0161580a620a6364\n0200000002000000010000000200000002\n";
@@ -57,11 +71,11 @@ static bool apply_edit(void) {
     uint32_t text[9] = {'a', 'b', '\n', 'c', 'd', 'e', 'f', 7, 7};
     static const uint32_t after[9] = {'a', 'b', 'e', 'f', 0, 0, 0, 7, 7};
     static const uint32_t cut[3] = {'\n', 'c', 'd'};
-    static const uint32_t unused = 0;
-    uint32_t payload[LENGTH(text)], first[LIST_LIMIT], second[LIST_LIMIT];
+    const uint32_t *none = winchbarn_empty();
+    uint32_t payload[LENGTH(text)], first[WINCHBARN_LIST_LIMIT], second[WINCHBARN_LIST_LIMIT];
     winchbarn_applied answer =
-        winchbarn_apply_edit(text, LENGTH(text), opened(7), edit(WINCHBARN_DELETE_CHAR, at(0, 99), at(1, 2), 0), &unused, 0,
-                             &unused, 0, &unused, 0, payload, LENGTH(payload), first, LENGTH(first), second, LENGTH(second));
+        winchbarn_apply_edit(text, LENGTH(text), opened(7), edit(WINCHBARN_DELETE_CHAR, at(0, 99), at(1, 2), 0), none, 0,
+                             none, 0, none, 0, payload, LENGTH(payload), first, LENGTH(first), second, LENGTH(second));
     return answer.refusal == 0 && answer.offset == 0 && answer.view.used == 4 && same_place(answer.view.cursor, at(0, 4)) &&
            answer.view.changes == 1 && answer.inverse.kind == WINCHBARN_INSERT_STR &&
            same_place(answer.inverse.start, at(0, 99)) && answer.payload == 3 && answer.first == 0 && answer.second == 0 &&
@@ -74,7 +88,7 @@ static bool apply_frame(void) {
     static const uint32_t after[5] = {'a', ' ', 'b', ' ', 'c'};
     static const uint32_t columns[2] = {1, 3}, flags[2] = {1, 1};
     static const char line[] = "12000000000000000501";
-    uint32_t payload[LENGTH(text)], first[LIST_LIMIT], second[LIST_LIMIT];
+    uint32_t payload[LENGTH(text)], first[WINCHBARN_LIST_LIMIT], second[WINCHBARN_LIST_LIMIT];
     winchbarn_applied answer =
         winchbarn_apply_frame(text, LENGTH(text), opened(5), (const uint8_t *)line, sizeof line - 1, payload, LENGTH(payload),
                               first, LENGTH(first), second, LENGTH(second));
@@ -89,26 +103,45 @@ static bool apply_frame_refuses(void) {
     uint32_t payload[1], first[1], second[1];
     winchbarn_applied answer =
         winchbarn_apply_frame(text, 1, opened(1), (const uint8_t *)line, sizeof line - 1, payload, 1, first, 1, second, 1);
-    return answer.refusal == 5 && answer.offset == 10 && answer.view.used == 1 && answer.view.changes == 0 && text[0] == 'a';
+    return answer.refusal == WINCHBARN_BAD_UTF8 && answer.offset == 10 && answer.view.used == 1 && answer.view.changes == 0 && text[0] == 'a';
 }
 
 static bool write_edit(void) {
     static const uint32_t payload[2] = {'X', '\n'};
-    static const uint32_t unused = 0;
+    const uint32_t *none = winchbarn_empty();
     static const char line[] = "100000000000000001580a";
     uint8_t out[64];
     winchbarn_count answer = winchbarn_write_edit(edit(WINCHBARN_INSERT_STR, at(0, 1), origin, 0), payload, LENGTH(payload),
-                                                  &unused, 0, &unused, 0, out, sizeof out);
+                                                  none, 0, none, 0, out, sizeof out);
     return answer.refusal == 0 && answer.count == sizeof line - 1 && memcmp(out, line, answer.count) == 0;
+}
+
+static const winchbarn_edit split_at_one = {WINCHBARN_SPLIT_LINES, {0, 0}, {0, 0}, 0};
+
+/* "ab" split at 1 is not among the edits that are sure to be taken back, and its inverse takes it back. */
+static bool split(void) {
+    uint32_t text[3] = {'a', 'b', 7}, payload[3], first[WINCHBARN_LIST_LIMIT], second[WINCHBARN_LIST_LIMIT];
+    static const uint32_t after[3] = {'a', '\n', 'b'}, back[3] = {'a', 'b', 0}, column = 1;
+    uint32_t *none = winchbarn_empty();
+    winchbarn_said sure = winchbarn_undoable(text, LENGTH(text), opened(2), split_at_one, none, 0, &column, 1, none, 0);
+    winchbarn_applied there =
+        winchbarn_apply_edit(text, LENGTH(text), opened(2), split_at_one, none, 0, &column, 1, none, 0, payload, LENGTH(payload),
+                             first, LENGTH(first), second, LENGTH(second));
+    bool parted = same_numbers(text, after, LENGTH(text));
+    winchbarn_applied again = winchbarn_apply_edit(text, LENGTH(text), there.view, there.inverse, none, there.payload, none,
+                                                   there.first, none, there.second, payload, LENGTH(payload), first,
+                                                   LENGTH(first), second, LENGTH(second));
+    return sure.refusal == 0 && !sure.yes && there.refusal == 0 && parted && again.refusal == 0 && again.view.used == 2 &&
+           same_numbers(text, back, LENGTH(text));
 }
 
 static bool undoable(void) {
     static const uint32_t text[7] = {'a', 'b', '\n', 'c', 'd', 'e', 'f'};
-    static const uint32_t unused = 0;
+    const uint32_t *none = winchbarn_empty();
     winchbarn_said past = winchbarn_undoable(text, LENGTH(text), opened(7), edit(WINCHBARN_DELETE_CHAR, at(0, 99), at(1, 2), 0),
-                                             &unused, 0, &unused, 0, &unused, 0);
+                                             none, 0, none, 0, none, 0);
     winchbarn_said within = winchbarn_undoable(text, LENGTH(text), opened(7),
-                                               edit(WINCHBARN_DELETE_CHAR, at(0, 1), at(1, 2), 0), &unused, 0, &unused, 0, &unused, 0);
+                                               edit(WINCHBARN_DELETE_CHAR, at(0, 1), at(1, 2), 0), none, 0, none, 0, none, 0);
     return past.refusal == 0 && !past.yes && within.refusal == 0 && within.yes;
 }
 
@@ -130,19 +163,19 @@ static bool box_fit(void) {
 static const uint32_t two_rows[5] = {'a', 'b', '\n', 'c', 'd'};
 
 static bool shift_position(void) {
-    static const uint32_t unused = 0;
+    const uint32_t *none = winchbarn_empty();
     winchbarn_place answer = winchbarn_shift_position(two_rows, LENGTH(two_rows), opened(5),
-                                                      edit(WINCHBARN_JOIN_LINES_SPACED, origin, origin, 1), &unused, 0, &unused,
-                                                      0, &unused, 0, at(1, 2));
+                                                      edit(WINCHBARN_JOIN_LINES_SPACED, origin, origin, 1), none, 0, none,
+                                                      0, none, 0, at(1, 2));
     return answer.refusal == 0 && answer.found && same_place(answer.at, at(0, 5));
 }
 
 static bool shift_sel(void) {
-    static const uint32_t unused = 0;
+    const uint32_t *none = winchbarn_empty();
     winchbarn_sel sel = {{1, 2}, {0, 1}};
     winchbarn_sel_place answer = winchbarn_shift_sel(two_rows, LENGTH(two_rows), opened(5),
-                                                     edit(WINCHBARN_JOIN_LINES_SPACED, origin, origin, 1), &unused, 0, &unused, 0,
-                                                     &unused, 0, sel);
+                                                     edit(WINCHBARN_JOIN_LINES_SPACED, origin, origin, 1), none, 0, none, 0,
+                                                     none, 0, sel);
     return answer.refusal == 0 && answer.found && same_place(answer.sel.anchor, at(0, 5)) &&
            same_place(answer.sel.head, at(0, 1));
 }
@@ -157,13 +190,13 @@ static bool merge_overlapping(void) {
 
 static bool row_span(void) {
     winchbarn_sel sel = {{3, 4}, {1, 2}};
-    winchbarn_span open = winchbarn_row_span(0, sel, 1);
-    winchbarn_span closed = winchbarn_row_span(0, sel, 3);
-    winchbarn_span outside = winchbarn_row_span(0, sel, 4);
+    winchbarn_span open = winchbarn_row_span(WINCHBARN_SELECT_CHAR, sel, 1);
+    winchbarn_span closed = winchbarn_row_span(WINCHBARN_SELECT_CHAR, sel, 3);
+    winchbarn_span outside = winchbarn_row_span(WINCHBARN_SELECT_CHAR, sel, 4);
     winchbarn_span none = winchbarn_row_span(3, sel, 1);
     return open.refusal == 0 && open.covered && open.open && open.lo == 2 && open.hi == 0 && closed.refusal == 0 &&
            closed.covered && !closed.open && closed.lo == 0 && closed.hi == 4 && outside.refusal == 0 && !outside.covered &&
-           none.refusal == 10;
+           none.refusal == WINCHBARN_BAD_FRAME;
 }
 
 static bool decode(void) {
@@ -172,7 +205,7 @@ static bool decode(void) {
     uint32_t out[5] = {7, 7, 7, 7, 7};
     winchbarn_count answer = winchbarn_decode(bytes, sizeof bytes, out, LENGTH(out));
     winchbarn_count bad = winchbarn_decode(bytes, 8, out, LENGTH(out));
-    return answer.refusal == 0 && answer.count == 4 && same_numbers(out, scalars, LENGTH(out)) && bad.refusal == 5 &&
+    return answer.refusal == 0 && answer.count == 4 && same_numbers(out, scalars, LENGTH(out)) && bad.refusal == WINCHBARN_BAD_UTF8 &&
            bad.offset == 6 && bad.count == 0;
 }
 
@@ -182,17 +215,19 @@ static bool encode(void) {
     uint8_t out[5] = {'.', '.', '.', '.', '.'};
     winchbarn_count answer = winchbarn_encode(scalars, LENGTH(scalars), out, sizeof out);
     winchbarn_count bad = winchbarn_encode(&surrogate, 1, out, sizeof out);
-    return answer.refusal == 0 && answer.count == 4 && memcmp(out, bytes, sizeof bytes) == 0 && bad.refusal == 1;
+    return answer.refusal == 0 && answer.count == 4 && memcmp(out, bytes, sizeof bytes) == 0 && bad.refusal == WINCHBARN_BAD_TEXT;
 }
 
 static const check checks[] = {
     {"layouts", layouts},
+    {"refusals", refusals},
     {"run_script", run_script},
     {"apply_edit", apply_edit},
     {"apply_frame", apply_frame},
     {"apply_frame refuses", apply_frame_refuses},
     {"write_edit", write_edit},
     {"undoable", undoable},
+    {"split", split},
     {"clamp_position", clamp_position},
     {"box_fit", box_fit},
     {"shift_position", shift_position},

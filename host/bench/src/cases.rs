@@ -6,7 +6,7 @@ pub const CHARACTERS: usize = 12_000;
 const ROWS: u32 = 20;
 
 /// An edit with its payload and lists.
-#[derive(Clone, Debug, Default, PartialEq, Eq)]
+#[derive(Clone, Debug, PartialEq, Eq)]
 pub struct Whole {
     pub edit: Edit,
     pub payload: Vec<u32>,
@@ -47,15 +47,16 @@ pub fn edits(text: &[u32]) -> Vec<(&'static str, Whole)> {
 }
 
 impl Whole {
-    fn new(kind: u32, start: Position, end: Position) -> Self {
+    fn new(kind: Kind, start: Position, end: Position) -> Self {
         Whole {
             edit: Edit {
-                kind,
                 start,
                 end,
-                ..Edit::default()
+                ..Edit::new(kind)
             },
-            ..Whole::default()
+            payload: Vec::new(),
+            first: Vec::new(),
+            second: Vec::new(),
         }
     }
 
@@ -81,23 +82,26 @@ fn flat_edits(row: u32, text: &[u32]) -> Vec<(&'static str, Whole)> {
         row: row + 1,
         col: 40,
     };
-    let insertion = Whole::new(INSERT_STR, here, here);
+    let insertion = Whole::new(Kind::InsertStr, here, here);
     let hundred = &text[..100];
     vec![
         (
             "InsertChar",
-            Whole::new(INSERT_CHAR, here, here).with_payload(&text[..1]),
+            Whole::new(Kind::InsertChar, here, here).with_payload(&text[..1]),
         ),
         ("InsertStr of 1", insertion.clone().with_payload(&text[..1])),
         ("InsertStr of 100", insertion.with_payload(hundred)),
         (
             "Delete Char, over two rows",
-            Whole::new(DELETE_CHAR, here, below),
+            Whole::new(Kind::DeleteChar, here, below),
         ),
-        ("Delete Line, one row", Whole::new(DELETE_LINE, here, here)),
+        (
+            "Delete Line, one row",
+            Whole::new(Kind::DeleteLine, here, here),
+        ),
         (
             "Replace, over two rows by 100",
-            Whole::new(REPLACE, here, below).with_payload(hundred),
+            Whole::new(Kind::Replace, here, below).with_payload(hundred),
         ),
     ]
 }
@@ -110,10 +114,10 @@ fn row_edits(row: u32) -> Vec<(&'static str, Whole)> {
         whole
     };
     let columns = (1..=ROWS).map(|i| 2 * i).collect();
-    let split = Whole::new(SPLIT_LINES, start, start);
+    let split = Whole::new(Kind::SplitLines, start, start);
     vec![
-        ("JoinLines of 20", joins(JOIN_LINES)),
-        ("JoinLines of 20, spaced", joins(JOIN_LINES_SPACED)),
+        ("JoinLines of 20", joins(Kind::JoinLines)),
+        ("JoinLines of 20, spaced", joins(Kind::JoinLinesSpaced)),
         ("SplitLines of 20", split.with_lists(columns, Vec::new())),
     ]
 }
@@ -130,17 +134,17 @@ fn block_edits(row: u32, text: &[u32]) -> Vec<(&'static str, Whole)> {
     vec![
         (
             "Delete Block, 20 rows",
-            Whole::new(DELETE_BLOCK, at(0, 20), at(ROWS - 1, 29)),
+            Whole::new(Kind::DeleteBlock, at(0, 20), at(ROWS - 1, 29)),
         ),
         (
             "InsertBlock, 20 rows",
-            Whole::new(INSERT_BLOCK, at(0, 60), at(0, 60))
+            Whole::new(Kind::InsertBlock, at(0, 60), at(0, 60))
                 .with_payload(&chunks)
                 .with_lists(tens.clone(), Vec::new()),
         ),
         (
             "DeleteBlockChunks, 20 rows",
-            Whole::new(DELETE_BLOCK_CHUNKS, at(0, 30), at(0, 30)).with_lists(tens, pads),
+            Whole::new(Kind::DeleteBlockChunks, at(0, 30), at(0, 30)).with_lists(tens, pads),
         ),
     ]
 }

@@ -282,8 +282,14 @@ fn scattered(i: u32) -> u32 {
     i.wrapping_mul(2_654_435_761) >> 12
 }
 
-fn selection(row: u32, col: u32, length: u32) -> [u32; 4] {
-    [row, col, row, col + length]
+fn selection(row: u32, col: u32, length: u32) -> Sel {
+    Sel {
+        anchor: Position { row, col },
+        head: Position {
+            row,
+            col: col + length,
+        },
+    }
 }
 
 pub fn merging() {
@@ -297,35 +303,33 @@ pub fn merging() {
     let sorted = |i| selection(i, 10, 5);
     let falling = |i| selection(SELECTIONS - i, 10, 5);
     let overlapping = |i| selection(5, scattered(i) % 50, 60);
-    let numbers = |make: fn(u32) -> [u32; 4]| (0..SELECTIONS).flat_map(make).collect();
+    let sels = |make: fn(u32) -> Sel| (0..SELECTIONS).map(make).collect();
     table("merge", &["original"]);
-    merge_compared("random", numbers(random));
-    merge_compared("sorted", numbers(sorted));
-    merge_compared("falling", numbers(falling));
-    merge_compared("all overlapping", numbers(overlapping));
+    merge_compared("random", sels(random));
+    merge_compared("sorted", sels(sorted));
+    merge_compared("falling", sels(falling));
+    merge_compared("all overlapping", sels(overlapping));
 }
 
-fn original_sels(numbers: &[u32]) -> Vec<original::Sel> {
-    let end = |row: u32, col: u32| original_position(Position { row, col });
-    let (fours, _) = numbers.as_chunks();
-    let made = fours.iter().map(|&[row, col, head_row, head_col]| {
-        original::Sel::new(end(row, col), end(head_row, head_col))
-    });
+fn original_sels(sels: &[Sel]) -> Vec<original::Sel> {
+    let made = sels
+        .iter()
+        .map(|sel| original::Sel::new(original_position(sel.anchor), original_position(sel.head)));
     made.collect()
 }
 
-fn merge_compared(name: &str, numbers: Vec<u32>) {
-    let sels = original_sels(&numbers);
-    let mut out = vec![0; numbers.len()];
-    let count = merge_overlapping(&numbers, &mut out).expect("the selections are accepted");
+fn merge_compared(name: &str, given: Vec<Sel>) {
+    let sels = original_sels(&given);
+    let mut out = vec![Sel::default(); given.len()];
+    let count = merge_overlapping(&given, &mut out).expect("the selections are accepted");
     assert_eq!(
-        original_sels(&out[..4 * count]),
+        original_sels(&out[..count]),
         original::merge_overlapping(sels.clone())
     );
     report(
         &format!("{SELECTIONS}, {name}"),
         vec![
-            Side::new(|| timed(|| merge_overlapping(black_box(&numbers), &mut out))),
+            Side::new(|| timed(|| merge_overlapping(black_box(&given), &mut out))),
             Side::new(|| {
                 let sels = sels.clone();
                 timed(|| original::merge_overlapping(black_box(sels)))

@@ -12,21 +12,21 @@ pub fn plain_edit(whole: &Whole) -> plain::Edit {
     } = whole.edit;
     let text = || whole.payload.clone();
     match kind {
-        INSERT_CHAR => plain::Edit::InsertChar {
+        Kind::InsertChar => plain::Edit::InsertChar {
             at: start,
             ch: whole.payload[0],
         },
-        INSERT_STR => plain::Edit::InsertStr {
+        Kind::InsertStr => plain::Edit::InsertStr {
             at: start,
             text: text(),
         },
-        DELETE_CHAR => plain::Edit::DeleteChar { start, end },
-        DELETE_LINE => plain::Edit::DeleteLine {
+        Kind::DeleteChar => plain::Edit::DeleteChar { start, end },
+        Kind::DeleteLine => plain::Edit::DeleteLine {
             start_row: start.row,
             end_row: end.row,
         },
-        DELETE_BLOCK => plain::Edit::DeleteBlock { start, end },
-        REPLACE => plain::Edit::Replace {
+        Kind::DeleteBlock => plain::Edit::DeleteBlock { start, end },
+        Kind::Replace => plain::Edit::Replace {
             start,
             end,
             text: text(),
@@ -41,26 +41,26 @@ fn plain_edit_of_rows(whole: &Whole) -> plain::Edit {
     } = whole.edit;
     let row = start.row;
     match kind {
-        JOIN_LINES | JOIN_LINES_SPACED => plain::Edit::JoinLines {
+        Kind::JoinLines | Kind::JoinLinesSpaced => plain::Edit::JoinLines {
             row,
             count,
-            spaced: kind == JOIN_LINES_SPACED,
+            spaced: kind == Kind::JoinLinesSpaced,
         },
-        SPLIT_LINES => plain::Edit::SplitLines {
+        Kind::SplitLines => plain::Edit::SplitLines {
             row,
             columns: whole.first.clone(),
             flags: whole.second.iter().map(|&flag| flag != 0).collect(),
         },
-        INSERT_BLOCK => plain::Edit::InsertBlock {
+        Kind::InsertBlock => plain::Edit::InsertBlock {
             at: start,
             chunks: chunks(whole),
         },
-        DELETE_BLOCK_CHUNKS => plain::Edit::DeleteBlockChunks {
+        Kind::DeleteBlockChunks => plain::Edit::DeleteBlockChunks {
             at: start,
             widths: whole.first.clone(),
             pads: whole.second.clone(),
         },
-        none => unreachable!("{none} is no kind"),
+        flat => unreachable!("{flat:?} is not of rows"),
     }
 }
 

@@ -1,10 +1,11 @@
 //! The original, called with the core's numbers and slices.
 
 use original::MotionKind;
-use winchbarn::{
+use winchbarn::raw::{
     DELETE_BLOCK, DELETE_BLOCK_CHUNKS, DELETE_CHAR, DELETE_LINE, Edit, INSERT_BLOCK, INSERT_CHAR,
-    INSERT_STR, JOIN_LINES, JOIN_LINES_SPACED, Position, REPLACE, SPLIT_LINES, Sel,
+    INSERT_STR, JOIN_LINES, JOIN_LINES_SPACED, REPLACE, SPLIT_LINES,
 };
+use winchbarn::{Position, Sel};
 
 use crate::calls::{Whole, at};
 

@@ -2,7 +2,8 @@
 
 use std::fmt;
 
-use winchbarn::{Edit, Position, Sel, View};
+use winchbarn::raw::Edit;
+use winchbarn::{Position, Sel, View};
 
 use crate::tally::Input;
 

@@ -1,9 +1,10 @@
 //! Random calls: texts of any length, and edits of every kind.
 
-use winchbarn::{
+use winchbarn::raw::{
     DELETE_BLOCK, DELETE_BLOCK_CHUNKS, DELETE_CHAR, DELETE_LINE, Edit, INSERT_BLOCK, INSERT_CHAR,
-    INSERT_STR, JOIN_LINES, JOIN_LINES_SPACED, Position, REPLACE, SPLIT_LINES, Sel, View,
+    INSERT_STR, JOIN_LINES, JOIN_LINES_SPACED, REPLACE, SPLIT_LINES,
 };
+use winchbarn::{Position, Sel, View};
 
 use crate::bridge::Done;
 use crate::calls::{Call, Room, Whole, at};

@@ -1,6 +1,6 @@
 //! `apply_edit` and `undoable` beside the original and document 01.
 
-use winchbarn::Applied;
+use winchbarn::raw::{self, Applied, Said};
 
 use crate::bridge::Done;
 use crate::bruises::bruise;
@@ -8,11 +8,12 @@ use crate::calls::{Call, Room};
 use crate::cases;
 use crate::guard::Guarded;
 use crate::law::{self, Answer};
-use crate::lend::{Given, Written, same};
+use crate::lend::{Given, Written};
 use crate::limits;
 use crate::random::Random;
 use crate::small;
 use crate::tally::{Tally, Verdict};
+use crate::told;
 use crate::work::Work;
 
 /// What stands behind a small text in its buffer.
@@ -27,8 +28,8 @@ pub fn compare(call: &Call, expected: Answer<&Done>) -> Verdict {
     written.expect(call.view, expected, answer)
 }
 
-pub fn apply(call: &Call, given: &Given, written: &mut Written) -> Answer<Applied> {
-    winchbarn::apply_edit(
+pub fn apply(call: &Call, given: &Given, written: &mut Written) -> Applied {
+    raw::apply_edit(
         written.text.lent_mut(),
         call.view,
         call.whole.edit,
@@ -42,14 +43,14 @@ pub fn apply(call: &Call, given: &Given, written: &mut Written) -> Answer<Applie
 }
 
 pub fn compare_undoable(call: &Call) -> Verdict {
-    same(&law::undoable(call), &undoable(call)?)
+    told::same(&law::undoable(call), told::said, undoable(call)?)
 }
 
 /// The core's answer, once it is seen that nothing lent was written.
-pub fn undoable(call: &Call) -> Result<Answer<bool>, String> {
+pub fn undoable(call: &Call) -> Result<Said, String> {
     let given = Given::of(&call.whole);
     let text = Guarded::of(&call.buffer);
-    let answer = winchbarn::undoable(
+    let answer = raw::undoable(
         text.lent(),
         call.view,
         call.whole.edit,

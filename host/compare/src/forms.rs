@@ -2,10 +2,11 @@
 
 use std::str;
 
-use winchbarn::{
+use winchbarn::raw::{
     DELETE_BLOCK, DELETE_BLOCK_CHUNKS, DELETE_CHAR, DELETE_LINE, Edit, INSERT_BLOCK, INSERT_STR,
-    JOIN_LINES, JOIN_LINES_SPACED, Position, REPLACE, Refusal, SPLIT_LINES, Sel,
+    JOIN_LINES, JOIN_LINES_SPACED, REPLACE, SPLIT_LINES,
 };
+use winchbarn::{Position, Refusal, Sel};
 
 use crate::calls::{Whole, at};
 use crate::frames::{DIGIT_LIMIT, MARK, TEXT};
@@ -202,8 +203,7 @@ impl Piece {
     pub fn decoded(&self) -> Answer<Vec<u32>> {
         match str::from_utf8(&self.bytes) {
             Ok(string) => Ok(string.chars().map(u32::from).collect()),
-            Err(error) => Err(Refusal {
-                number: 5,
+            Err(error) => Err(Refusal::BadUtf8 {
                 offset: self.at + error.valid_up_to(),
             }),
         }

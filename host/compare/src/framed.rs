@@ -2,7 +2,8 @@
 
 use std::fmt;
 
-use winchbarn::{Applied, DELETE_BLOCK_CHUNKS, SPLIT_LINES, Sel};
+use winchbarn::Sel;
+use winchbarn::raw::{self, Applied, DELETE_BLOCK_CHUNKS, SPLIT_LINES};
 
 use crate::bridge::Done;
 use crate::bruises::bruise;
@@ -13,11 +14,12 @@ use crate::forms;
 use crate::frames;
 use crate::guard::Guarded;
 use crate::law::{self, Answer, refusal};
-use crate::lend::{Given, Written, same};
+use crate::lend::{Given, Written};
 use crate::limits;
 use crate::random::Random;
 use crate::small;
 use crate::tally::{Input, Tally, Verdict};
+use crate::told;
 use crate::work::Work;
 
 /// A line for a call's view and slices. The edit that stands in the call is not lent.
@@ -50,8 +52,8 @@ impl Line<'_> {
         written.expect(self.call.view, expected.as_ref().map_err(|it| *it), answer)
     }
 
-    fn apply(&self, line: &Guarded<u8>, written: &mut Written) -> Answer<Applied> {
-        winchbarn::apply_frame(
+    fn apply(&self, line: &Guarded<u8>, written: &mut Written) -> Applied {
+        raw::apply_frame(
             written.text.lent_mut(),
             self.call.view,
             line.lent(),
@@ -74,7 +76,7 @@ impl Writing<'_> {
     pub fn compare(&self) -> Verdict {
         let given = Given::of(self.whole);
         let mut out = Guarded::<u8>::room(self.room);
-        let answer = winchbarn::write_edit(
+        let answer = raw::write_edit(
             self.whole.edit,
             given.payload.lent(),
             given.first.lent(),
@@ -83,7 +85,7 @@ impl Writing<'_> {
         );
         given.expect_kept()?;
         let expected = self.expected();
-        let verdict = same(&expected.as_ref().map(Vec::len).map_err(|it| *it), &answer)?;
+        let verdict = told::same(&told::length(&expected), told::counted, answer)?;
         out.expect("line", &expected.unwrap_or_default())?;
         Ok(verdict)
     }

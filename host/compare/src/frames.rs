@@ -1,9 +1,10 @@
 //! Document 01's frames, written in plain Rust.
 
-use winchbarn::{
+use winchbarn::raw::{
     DELETE_BLOCK, DELETE_BLOCK_CHUNKS, DELETE_CHAR, DELETE_LINE, Edit, INSERT_BLOCK, INSERT_STR,
-    JOIN_LINES, JOIN_LINES_SPACED, Position, REPLACE, SPLIT_LINES, Sel,
+    JOIN_LINES, JOIN_LINES_SPACED, REPLACE, SPLIT_LINES,
 };
+use winchbarn::{Position, Sel};
 
 use crate::calls::Whole;
 use crate::law::{Answer, refusal, sums_to};

@@ -1,9 +1,10 @@
 //! What document 01 says of a call: the refusal that its table gives, or what the original does.
 
-use winchbarn::{
+use winchbarn::raw::{
     DELETE_BLOCK, DELETE_BLOCK_CHUNKS, DELETE_CHAR, DELETE_LINE, INSERT_BLOCK, INSERT_CHAR,
-    INSERT_STR, JOIN_LINES, JOIN_LINES_SPACED, Position, REPLACE, Refusal, SPLIT_LINES,
+    INSERT_STR, JOIN_LINES, JOIN_LINES_SPACED, REPLACE, SPLIT_LINES,
 };
+use winchbarn::{Position, Refusal};
 
 use crate::bridge::{self, Done};
 use crate::calls::{Call, Whole, at};
@@ -19,7 +20,7 @@ pub type Answer<T> = Result<T, Refusal>;
 
 /// A refusal, by its number in the table.
 pub fn refusal(number: u32) -> Refusal {
-    Refusal { number, offset: 0 }
+    Refusal::of(number, 0).expect("a row of the table")
 }
 
 pub fn admissible(value: u32) -> bool {

@@ -1,13 +1,14 @@
 //! An edit's slices, lent between guards and looked over after the call.
 
-use std::fmt::Debug;
-
-use winchbarn::{Applied, View};
+use winchbarn::View;
+use winchbarn::raw::Applied;
 
 use crate::bridge::Done;
 use crate::calls::{Room, Whole};
 use crate::guard::Guarded;
 use crate::law::Answer;
+use crate::tally::Verdict;
+use crate::told;
 
 /// The slices of an edit that are only read.
 pub struct Given {
@@ -68,39 +69,12 @@ impl Written {
     }
 
     /// The answer and all that the edit may write are as expected of a view.
-    pub fn expect(
-        &self,
-        view: View,
-        expected: Answer<&Done>,
-        answer: Answer<Applied>,
-    ) -> Result<u32, String> {
-        let verdict = same(&expected.map(|done| told(view, done)), &answer)?;
+    pub fn expect(&self, view: View, expected: Answer<&Done>, answer: Applied) -> Verdict {
+        let verdict = told::same(&expected, |it| told::applied(view, it), answer)?;
         match expected {
             Ok(done) => self.expect_done(view, done)?,
             Err(_) => self.expect_kept()?,
         }
         Ok(verdict)
     }
-}
-
-fn told(view: View, done: &Done) -> Applied {
-    Applied {
-        view: View {
-            used: done.text.len(),
-            cursor: done.cursor,
-            changes: view.changes.wrapping_add(done.changes),
-        },
-        inverse: done.inverse.edit,
-        payload: done.inverse.payload.len(),
-        first: done.inverse.first.len(),
-        second: done.inverse.second.len(),
-    }
-}
-
-/// Refusal or value, as expected.
-pub fn same<T: PartialEq + Debug>(expected: &Answer<T>, answer: &Answer<T>) -> Result<u32, String> {
-    if expected != answer {
-        return Err(format!("expected {expected:?}\nanswered {answer:?}"));
-    }
-    Ok(answer.as_ref().map_or_else(|refusal| refusal.number, |_| 0))
 }

@@ -1,6 +1,6 @@
 //! The core beside the original and document 01: the same input to both, and all that comes of it compared.
 //!
-//! `law` says what document 01 and the original make of a call, `lend` and `guard` lend its slices to the core and look them over
+//! `law` says what document 01 and the original make of a call and `told` what its caller is told, `lend` and `guard` lend its slices to the core and look them over
 //! afterwards, `small`, `cases`, `limits`, `bruises` and `damage` make the input, and `groups` runs it.
 
 pub mod bridge;
@@ -27,5 +27,6 @@ pub mod shifts;
 pub mod small;
 pub mod spans;
 pub mod tally;
+pub mod told;
 pub mod utf8;
 pub mod work;

@@ -2,16 +2,16 @@
 
 use std::fmt;
 
-use winchbarn::{Position, Sel};
+use winchbarn::{Position, Sel, raw};
 
 use crate::bridge;
 use crate::calls::{at, weight};
 use crate::guard::Guarded;
 use crate::law::{Answer, refusal};
-use crate::lend::same;
 use crate::random::Random;
 use crate::small::lists;
 use crate::tally::{Input, Verdict};
+use crate::told;
 use crate::work::{Extent, Work};
 
 pub const MERGE_LIMIT: usize = 4_096;
@@ -53,11 +53,11 @@ impl Merge {
     pub fn compare(&self) -> Verdict {
         let sels = Guarded::of(&self.sels);
         let mut out = Guarded::room(self.room);
-        let answer = winchbarn::merge_overlapping(sels.lent(), out.lent_mut());
+        let answer = raw::merge_overlapping(sels.lent(), out.lent_mut());
         sels.expect_kept("selections")?;
         let expected = self.expected();
-        let count = expected.as_ref().map(|it| it.len() / 4).map_err(|it| *it);
-        let verdict = same(&count, &answer)?;
+        let count = told::length(&expected).map(|it| it / 4);
+        let verdict = told::same(&count, told::counted, answer)?;
         out.expect("merged", &expected.unwrap_or_default())?;
         Ok(verdict)
     }

@@ -2,16 +2,16 @@
 
 use std::fmt;
 
-use winchbarn::Position;
+use winchbarn::{Position, raw};
 
 use crate::calls::{Shown, ShownPlace, weight};
 use crate::cases;
 use crate::guard::Guarded;
 use crate::law::{self, Answer, refusal};
-use crate::lend::same;
 use crate::random::Random;
 use crate::small;
 use crate::tally::{Input, Tally, Verdict};
+use crate::told;
 use crate::work::Work;
 
 /// A buffer, how much of it is used, and a position in it; the position's column serves as a box's cells.
@@ -31,19 +31,19 @@ impl Place {
 
     pub fn compare_clamped(&self) -> Verdict {
         let buffer = Guarded::of(&self.buffer);
-        let answer = winchbarn::clamp_position(buffer.lent(), self.used, self.pos);
+        let answer = raw::clamp_position(buffer.lent(), self.used, self.pos);
         buffer.expect_kept("text")?;
-        let expected = self.lengths().map(|it| law::clamped(&it, self.pos));
-        same(&expected, &answer)
+        let expected = self.lengths().map(|it| Some(law::clamped(&it, self.pos)));
+        told::same(&expected, told::placed, answer)
     }
 
     pub fn compare_box(&self) -> Verdict {
         let buffer = Guarded::of(&self.buffer);
         let cells = self.pos.col;
-        let answer = winchbarn::box_fit(buffer.lent(), self.used, cells);
+        let answer = raw::box_fit(buffer.lent(), self.used, cells);
         buffer.expect_kept("text")?;
         let expected = self.lengths().map(|it| law::first_over(&it, cells));
-        same(&expected, &answer)
+        told::same(&expected, told::placed, answer)
     }
 }
 

@@ -49,12 +49,12 @@ impl State {
         let call = self.call(whole);
         let given = Given::of(whole);
         let mut written = Written::of(&call.buffer, call.room);
-        let answer = edits::apply(&call, &given, &mut written);
+        let applied = edits::apply(&call, &given, &mut written);
         given.expect_kept()?;
-        let Ok(applied) = answer else {
+        if applied.refusal != 0 {
             written.expect_kept()?;
             return Ok(None);
-        };
+        }
         let state = State {
             buffer: written.text.lent().to_vec(),
             used: applied.view.used,
@@ -115,7 +115,7 @@ impl Run {
             used: self.used,
         });
         for whole in &self.edits {
-            if edits::undoable(&made.last.call(whole))? == Ok(true)
+            if edits::undoable(&made.last.call(whole))?.yes
                 && let Some(step) = made.last.step(whole)?
             {
                 made.add(step);

@@ -1,6 +1,6 @@
 //! A sample of the original's answers, for a program that replays it.
 
-use winchbarn::{DELETE_BLOCK_CHUNKS, INSERT_STR};
+use winchbarn::raw::{DELETE_BLOCK_CHUNKS, INSERT_STR};
 
 use crate::bridge::Done;
 use crate::calls::{Call, Whole};

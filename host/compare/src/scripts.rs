@@ -2,7 +2,8 @@
 
 use std::fmt;
 
-use winchbarn::{DELETE_CHAR, DELETE_LINE, Edit, REPLACE, Sel, View};
+use winchbarn::raw::{DELETE_CHAR, DELETE_LINE, Edit, REPLACE};
+use winchbarn::{Sel, View, raw};
 
 use crate::calls::{Call, Room, Whole};
 use crate::cases;
@@ -12,10 +13,10 @@ use crate::framed::make_framed;
 use crate::frames::{self, hex};
 use crate::guard::Guarded;
 use crate::law::{self, Answer, clamped, refusal, row_lengths};
-use crate::lend::same;
 use crate::random::Random;
 use crate::shifts::Shift;
 use crate::tally::{Input, Verdict};
+use crate::told;
 use crate::work::Work;
 
 const BUFFER: usize = 4_096;
@@ -66,7 +67,7 @@ impl Script {
         }
         match loaded(piece) {
             Ok(text) => self.text = text,
-            Err(refusal) => self.print(&[refusal.number as u8]),
+            Err(refusal) => self.print(&[refusal.number() as u8]),
         }
         true
     }
@@ -103,7 +104,7 @@ impl Script {
                 let frame = frames::edit_frame(&inverse).expect("an inverse has a frame");
                 self.print(&[&[0], &frame[..]].concat());
             }
-            Err(refusal) => self.print(&[refusal.number as u8]),
+            Err(refusal) => self.print(&[refusal.number() as u8]),
         }
     }
 
@@ -183,10 +184,10 @@ impl Scripted<'_> {
         };
         let input = Guarded::of(self.input);
         let mut out = Guarded::<u8>::room(room);
-        let answer = winchbarn::run_script(input.lent(), out.lent_mut());
+        let answer = raw::run_script(input.lent(), out.lent_mut());
         input.expect_kept("script")?;
         let front = expected.map_or(&[][..], |_| &printed);
-        same(&expected, &answer)
+        told::same(&expected, told::counted, answer)
             .and_then(|verdict| out.expect("output", front).map(|()| verdict))
             .map_err(|why| format!("{why}\nexpected\n{}", String::from_utf8_lossy(&printed)))
     }

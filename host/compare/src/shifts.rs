@@ -2,7 +2,7 @@
 
 use std::fmt;
 
-use winchbarn::{Position, Sel};
+use winchbarn::{Position, Sel, raw};
 
 use crate::bridge;
 use crate::bruises::bruise;
@@ -10,12 +10,13 @@ use crate::calls::{Call, ShownSel, weight};
 use crate::cases;
 use crate::guard::Guarded;
 use crate::law::{self, Answer};
-use crate::lend::{Given, same};
+use crate::lend::Given;
 use crate::limits;
 use crate::merges::numbers;
 use crate::random::Random;
 use crate::small;
 use crate::tally::{Input, Tally, Verdict};
+use crate::told;
 use crate::work::{Extent, Work};
 
 /// An edit over which positions are shifted: what is lent for it, and the original's form of it where it is not refused.
@@ -84,7 +85,7 @@ impl<'a> Shift<'a> {
     }
 
     pub fn compare_sel(&self, sel: Sel) -> Verdict {
-        let answer = winchbarn::shift_sel(
+        let answer = raw::shift_sel(
             self.text.lent(),
             self.call.view,
             self.call.whole.edit,
@@ -94,11 +95,11 @@ impl<'a> Shift<'a> {
             sel,
         );
         self.expect_kept()?;
-        same(&self.sel(sel), &answer)
+        told::same(&self.sel(sel), told::sel_placed, answer)
     }
 
     pub fn compare_position(&self, pos: Position) -> Verdict {
-        let answer = winchbarn::shift_position(
+        let answer = raw::shift_position(
             self.text.lent(),
             self.call.view,
             self.call.whole.edit,
@@ -108,7 +109,7 @@ impl<'a> Shift<'a> {
             pos,
         );
         self.expect_kept()?;
-        same(&self.position(pos), &answer)
+        told::same(&self.position(pos), told::placed, answer)
     }
 }
 

@@ -1,8 +1,9 @@
 //! All small texts, and all small edits of each.
 
-use winchbarn::{
+use winchbarn::Position;
+use winchbarn::raw::{
     DELETE_BLOCK, DELETE_BLOCK_CHUNKS, DELETE_CHAR, DELETE_LINE, Edit, INSERT_BLOCK, INSERT_CHAR,
-    INSERT_STR, JOIN_LINES, JOIN_LINES_SPACED, Position, REPLACE, SPLIT_LINES,
+    INSERT_STR, JOIN_LINES, JOIN_LINES_SPACED, REPLACE, SPLIT_LINES,
 };
 
 use crate::calls::{Whole, at, chars};

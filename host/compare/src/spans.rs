@@ -2,15 +2,15 @@
 
 use std::fmt;
 
-use winchbarn::{Position, Sel, Span};
+use winchbarn::{Position, Sel, Span, raw};
 
 use crate::bridge::place;
 use crate::calls::{ShownSel, at, weight};
 use crate::law::{Answer, refusal};
-use crate::lend::same;
 use crate::merges::numbers;
 use crate::random::Random;
 use crate::tally::{Input, Verdict};
+use crate::told;
 use crate::work::Work;
 
 /// A row, and a selection by the number of its kind.
@@ -47,8 +47,8 @@ impl Row {
     }
 
     pub fn compare(&self) -> Verdict {
-        let answer = winchbarn::row_span(self.kind, self.sel, self.row);
-        same(&self.expected(), &answer)
+        let answer = raw::row_span(self.kind, self.sel, self.row);
+        told::same(&self.expected(), told::spanned, answer)
     }
 }
 

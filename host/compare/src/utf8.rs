@@ -3,15 +3,15 @@
 use std::fmt;
 use std::str;
 
-use winchbarn::Refusal;
+use winchbarn::{Refusal, raw};
 
 use crate::calls::Shown;
 use crate::frames::encoded;
 use crate::guard::Guarded;
 use crate::law::{Answer, refusal};
-use crate::lend::same;
 use crate::random::Random;
 use crate::tally::{Input, Tally, Verdict};
+use crate::told;
 use crate::work::{Extent, Work};
 
 /// Bytes to be read into so much room.
@@ -38,8 +38,7 @@ impl Decoding {
     fn expected(&self) -> Answer<Vec<u32>> {
         match str::from_utf8(&self.bytes) {
             Ok(string) => fitted(string.chars().map(u32::from).collect(), self.room),
-            Err(error) => Err(Refusal {
-                number: 5,
+            Err(error) => Err(Refusal::BadUtf8 {
                 offset: error.valid_up_to(),
             }),
         }
@@ -48,10 +47,10 @@ impl Decoding {
     pub fn compare(&self) -> Verdict {
         let bytes = Guarded::of(&self.bytes);
         let mut out = Guarded::room(self.room);
-        let answer = winchbarn::decode(bytes.lent(), out.lent_mut());
+        let answer = raw::decode(bytes.lent(), out.lent_mut());
         bytes.expect_kept("bytes")?;
         let expected = self.expected();
-        let verdict = same(&expected.as_ref().map(Vec::len).map_err(|it| *it), &answer)?;
+        let verdict = told::same(&told::length(&expected), told::counted, answer)?;
         out.expect("scalars", &expected.unwrap_or_default())?;
         Ok(verdict)
     }
@@ -65,10 +64,10 @@ impl Encoding {
     pub fn compare(&self) -> Verdict {
         let values = Guarded::of(&self.values);
         let mut out = Guarded::room(self.room);
-        let answer = winchbarn::encode(values.lent(), out.lent_mut());
+        let answer = raw::encode(values.lent(), out.lent_mut());
         values.expect_kept("values")?;
         let expected = self.expected();
-        let verdict = same(&expected.as_ref().map(Vec::len).map_err(|it| *it), &answer)?;
+        let verdict = told::same(&told::length(&expected), told::counted, answer)?;
         out.expect("bytes", &expected.unwrap_or_default())?;
         Ok(verdict)
     }

@@ -11,10 +11,11 @@ use compare::scripts::printed;
 use compare::shifts::Shift;
 use compare::{cases, framed};
 use original::merge_overlapping;
-use winchbarn::{
+use winchbarn::raw::{
     DELETE_BLOCK, DELETE_BLOCK_CHUNKS, DELETE_CHAR, DELETE_LINE, Edit, INSERT_BLOCK, INSERT_STR,
-    JOIN_LINES, JOIN_LINES_SPACED, Position, REPLACE, Refusal, SPLIT_LINES, Sel,
+    JOIN_LINES, JOIN_LINES_SPACED, REPLACE, SPLIT_LINES,
 };
+use winchbarn::{Position, Refusal, Sel};
 
 fn whole(kind: u32, start: Position, end: Position, payload: &str) -> Whole {
     Whole {
@@ -142,7 +143,7 @@ fn demand_3_says_what_can_be_undone() {
 fn check_refusal(text: &str, whole: Whole, number: u32) {
     let refusal = law::applied(&call(text, whole.clone())).err();
     assert_eq!(
-        refusal.map_or(0, |it| it.number),
+        refusal.map_or(0, |it| it.number()),
         number,
         "{text:?} {whole}"
     );
@@ -265,7 +266,7 @@ fn malformed_lines_are_10_and_ill_formed_ones_5_with_their_place() {
     for (line, offset) in ill_formed {
         assert_eq!(
             read_edit(line.as_bytes()),
-            Err(Refusal { number: 5, offset }),
+            Err(Refusal::BadUtf8 { offset }),
             "{line}"
         );
     }

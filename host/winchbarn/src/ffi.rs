@@ -1,53 +1,7 @@
-//! The functions of `include/winchbarn.h` and the answers that they return by value.
+//! The functions of `include/winchbarn.h`.
 
-use crate::{Edit, Position, Sel, View};
-
-#[repr(C)]
-pub(crate) struct Count {
-    pub refusal: u32,
-    pub offset: usize,
-    pub count: usize,
-}
-
-#[repr(C)]
-pub(crate) struct Applied {
-    pub refusal: u32,
-    pub offset: usize,
-    pub view: View,
-    pub inverse: Edit,
-    pub payload: usize,
-    pub first: usize,
-    pub second: usize,
-}
-
-#[repr(C)]
-pub(crate) struct Place {
-    pub refusal: u32,
-    pub found: bool,
-    pub at: Position,
-}
-
-#[repr(C)]
-pub(crate) struct SelPlace {
-    pub refusal: u32,
-    pub found: bool,
-    pub sel: Sel,
-}
-
-#[repr(C)]
-pub(crate) struct Span {
-    pub refusal: u32,
-    pub covered: bool,
-    pub open: bool,
-    pub lo: u32,
-    pub hi: u32,
-}
-
-#[repr(C)]
-pub(crate) struct Said {
-    pub refusal: u32,
-    pub yes: bool,
-}
+use crate::raw::{Applied, Count, Edit, Place, Said, SelPlace, Span};
+use crate::{Position, Sel, View};
 
 unsafe extern "C" {
     pub(crate) fn winchbarn_run_script(

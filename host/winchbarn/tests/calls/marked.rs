@@ -14,10 +14,9 @@ const INSERT_OUTPUT: &[u8] = b"00110000000000000000010000000100000000
 
 fn spaced_join(row: u32, count: u32) -> Edit {
     Edit {
-        kind: JOIN_LINES_SPACED,
         start: at(row, 0),
         count,
-        ..Edit::default()
+        ..Edit::new(Kind::JoinLinesSpaced)
     }
 }
 
@@ -55,21 +54,22 @@ fn example_3_a_script() {
 
 #[test]
 fn example_4_char_delete_past_the_row() {
-    let cut = Whole::new(edit(DELETE_CHAR, at(0, 99), at(1, 2)), "", &[], &[]);
+    let cut = Whole::new(edit(Kind::DeleteChar, at(0, 99), at(1, 2)), "", &[], &[]);
     assert_eq!(Buffer::holding("ab\ncdef").undoable(&cut), Ok(false));
     let (text, inverse, buffer) = applied("ab\ncdef", &cut);
     assert_eq!(text, "abef");
     assert_eq!(buffer.text[4..7], [0; 3]);
     assert_eq!(buffer.view.cursor, at(0, 4));
     assert_eq!(buffer.view.changes, 1);
-    let back = edit(INSERT_STR, at(0, 99), at(0, 0));
+    let back = edit(Kind::InsertStr, at(0, 99), at(0, 0));
     assert_eq!(inverse, Whole::new(back, "\ncd", &[], &[]));
 }
 
 #[test]
 fn examples_5_and_6_line_deletes() {
-    let row = |row| Whole::new(edit(DELETE_LINE, at(row, 0), at(row, 0)), "", &[], &[]);
-    let put = |place, payload| Whole::new(edit(INSERT_STR, place, at(0, 0)), payload, &[], &[]);
+    let row = |row| Whole::new(edit(Kind::DeleteLine, at(row, 0), at(row, 0)), "", &[], &[]);
+    let put =
+        |place, payload| Whole::new(edit(Kind::InsertStr, place, at(0, 0)), payload, &[], &[]);
     assert_eq!(Buffer::holding("a\nb").undoable(&row(1)), Ok(true));
     let (text, inverse, buffer) = applied("a\nb", &row(1));
     assert_eq!((text.as_str(), buffer.view.cursor), ("a", at(0, 0)));
@@ -81,8 +81,14 @@ fn examples_5_and_6_line_deletes() {
 
 #[test]
 fn examples_7_and_8_joins() {
-    let split =
-        |columns, flags| Whole::new(edit(SPLIT_LINES, at(0, 0), at(0, 0)), "", columns, flags);
+    let split = |columns, flags| {
+        Whole::new(
+            edit(Kind::SplitLines, at(0, 0), at(0, 0)),
+            "",
+            columns,
+            flags,
+        )
+    };
     let (text, inverse, _) = applied("a\n\nb", &Whole::new(spaced_join(0, 0), "", &[], &[]));
     assert_eq!(text, "a\nb");
     assert_eq!(inverse, split(&[1], &[0]));
@@ -93,16 +99,21 @@ fn examples_7_and_8_joins() {
 
 #[test]
 fn example_9_block_insert() {
-    let block = Whole::new(edit(INSERT_BLOCK, at(0, 2), at(0, 0)), "XY", &[1, 1], &[]);
+    let block = Whole::new(
+        edit(Kind::InsertBlock, at(0, 2), at(0, 0)),
+        "XY",
+        &[1, 1],
+        &[],
+    );
     let (text, inverse, _) = applied("abc\nd", &block);
     assert_eq!(text, "abXc\nd Y");
-    let chunks = edit(DELETE_BLOCK_CHUNKS, at(0, 2), at(0, 0));
+    let chunks = edit(Kind::DeleteBlockChunks, at(0, 2), at(0, 0));
     assert_eq!(inverse, Whole::new(chunks, "", &[1, 1], &[0, 1]));
 }
 
 #[test]
 fn example_10_block_delete_and_back() {
-    let block = Whole::new(edit(DELETE_BLOCK, at(0, 2), at(1, 2)), "", &[], &[]);
+    let block = Whole::new(edit(Kind::DeleteBlock, at(0, 2), at(1, 2)), "", &[], &[]);
     let (text, inverse, mut buffer) = applied("abc\nd", &block);
     assert_eq!(text, "ab\nd");
     buffer.apply(&inverse).unwrap();
@@ -111,22 +122,46 @@ fn example_10_block_delete_and_back() {
 
 #[test]
 fn example_11_splits() {
-    let split = |column| Whole::new(edit(SPLIT_LINES, at(0, 0), at(0, 0)), "", &[column], &[1]);
+    let split = |column| {
+        Whole::new(
+            edit(Kind::SplitLines, at(0, 0), at(0, 0)),
+            "",
+            &[column],
+            &[1],
+        )
+    };
     assert_eq!(applied("abc", &split(3)).0, "abc\n");
     let mut buffer = Buffer::holding("abc");
     let refusal = buffer.apply(&split(4)).unwrap_err();
-    assert_eq!((refusal.number, refusal.offset), (7, 0));
+    assert_eq!(refusal, Refusal::BeyondRow);
     assert_eq!(buffer.text(), "abc");
 }
 
 #[test]
 fn example_12_merged_selections() {
-    let mut out = [7; 9];
-    assert_eq!(
-        merge_overlapping(&[0, 0, 0, 3, 0, 5, 0, 3], &mut out),
-        Ok(1)
-    );
-    assert_eq!(out, [0, 0, 0, 5, 7, 7, 7, 7, 7]);
+    let sel = |anchor, head| Sel {
+        anchor: at(0, anchor),
+        head: at(0, head),
+    };
+    let mut out = [sel(7, 7); 3];
+    assert_eq!(merge_overlapping(&[sel(0, 3), sel(5, 3)], &mut out), Ok(1));
+    assert_eq!(out, [sel(0, 5), sel(7, 7), sel(7, 7)]);
+    assert_eq!(merge_overlapping(&[], &mut []), Ok(0));
+}
+
+#[test]
+fn a_selection_is_its_four_numbers() {
+    let sels = [2, 1, 0].map(|row| Sel {
+        anchor: at(row, 9),
+        head: at(row, 8),
+    });
+    let mut out = [7; 12];
+    let flat = [2, 9, 2, 8, 1, 9, 1, 8, 0, 9, 0, 8];
+    assert_eq!(raw::merge_overlapping(&flat, &mut out).count, 3);
+    assert_eq!(out, [0, 9, 0, 8, 1, 9, 1, 8, 2, 9, 2, 8]);
+    let mut merged = [Sel::default(); 3];
+    assert_eq!(merge_overlapping(&sels, &mut merged), Ok(3));
+    assert_eq!(merged, [sels[2], sels[1], sels[0]]);
 }
 
 #[test]
@@ -151,13 +186,13 @@ fn example_13_shifts_over_a_join() {
         shift_sel(&text, view, join, &[], &[], &[], sel),
         Ok(Some(shifted))
     );
-    let split = edit(SPLIT_LINES, at(0, 0), at(0, 0));
+    let split = edit(Kind::SplitLines, at(0, 0), at(0, 0));
     assert_eq!(shift_sel(&text, view, split, &[], &[1], &[], sel), Ok(None));
 }
 
 #[test]
 fn example_14_replace_past_the_row() {
-    let replace = Whole::new(edit(REPLACE, at(0, 99), at(1, 2)), "X", &[], &[]);
+    let replace = Whole::new(edit(Kind::Replace, at(0, 99), at(1, 2)), "X", &[], &[]);
     assert_eq!(applied("ab\ncdef", &replace).0, "abefX");
 }
 
@@ -203,7 +238,8 @@ fn a_selection_covers_a_row_from_its_start_between_and_to_its_end() {
         anchor: at(3, 4),
         head: at(1, 2),
     };
-    let spans = [0, 1, 2, 3].map(|row| row_span(0, sel, row).unwrap());
+    let by = |shape| Selection { shape, sel };
+    let spans = [0, 1, 2, 3].map(|row| by(Shape::Char).row_span(row));
     assert_eq!(
         spans,
         [
@@ -213,7 +249,9 @@ fn a_selection_covers_a_row_from_its_start_between_and_to_its_end() {
             Span::Closed { lo: 0, hi: 4 },
         ]
     );
-    assert_eq!(row_span(2, sel, 2), Ok(Span::Closed { lo: 2, hi: 4 }));
+    assert_eq!(by(Shape::Line).row_span(3), Span::Open { lo: 0 });
+    let columns = Span::Closed { lo: 2, hi: 4 };
+    assert_eq!(by(Shape::Block).row_span(2), columns);
 }
 
 #[test]
@@ -226,4 +264,14 @@ fn utf8_is_read_and_written_in_all_four_lengths() {
     assert_eq!(encode(&read[..4], &mut written), Ok(10));
     assert_eq!(&written[..10], text.as_bytes());
     assert_eq!(&written[10..], b"..");
+}
+
+#[test]
+fn undoable_says_no_of_a_split_that_is_taken_back_exactly() {
+    let split = Whole::new(edit(Kind::SplitLines, at(0, 0), at(0, 0)), "", &[1], &[]);
+    assert_eq!(Buffer::holding("ab").undoable(&split), Ok(false));
+    let (text, inverse, mut buffer) = applied("ab", &split);
+    assert_eq!(text, "a\nb");
+    buffer.apply(&inverse).unwrap();
+    assert_eq!(buffer.text(), "ab");
 }

@@ -1,6 +1,6 @@
 //! A text in a lent buffer, and edits of it with their payload as a string.
 
-use winchbarn::{Applied, Edit, LIST_LIMIT, Position, Refusal, View, apply_edit, undoable};
+use winchbarn::{Applied, Edit, Kind, LIST_LIMIT, Position, Refusal, View, apply_edit, undoable};
 
 pub fn scalars(text: &str) -> Vec<u32> {
     text.chars().map(u32::from).collect()
@@ -10,12 +10,11 @@ pub fn at(row: u32, col: u32) -> Position {
     Position { row, col }
 }
 
-pub fn edit(kind: u32, start: Position, end: Position) -> Edit {
+pub fn edit(kind: Kind, start: Position, end: Position) -> Edit {
     Edit {
-        kind,
         start,
         end,
-        count: 0,
+        ..Edit::new(kind)
     }
 }
 
