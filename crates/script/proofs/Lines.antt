@@ -7,7 +7,7 @@ use Rattle.text.specs.Text.{isLF}
 use Rattle.text.proofs.Ended.{Plain, plain-front}
 use Rattle.loading.specs.States.{State}
 use Rattle.step.specs.Steps.{step, ending}
-use Rattle.script.specs.Scripts.{lineStep, run}
+use Rattle.feed.specs.Scripts.{lineStep, run}
 use Rattle.script.specs.Undo.{script}
 
 -- lines without LF

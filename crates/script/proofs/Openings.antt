@@ -16,7 +16,7 @@ use Rattle.marking.specs.MarkLines.{markLines}
 use Rattle.loading.specs.States.{State, textIn, bufferLimit, opening}
 use Rattle.step.specs.Steps.{step, ending}
 use Rattle.step.proofs.TextLines.{opens}
-use Rattle.script.specs.Scripts.{output}
+use Rattle.feed.specs.Scripts.{output}
 use Rattle.script.specs.Undo.{script, textLine}
 use Rattle.script.proofs.Lines.{Plains, more, runs, run-script, script-append}
 

@@ -17,7 +17,7 @@ use Rattle.place.specs.Places.{placed, seen}
 use Rattle.loading.specs.States.{State}
 use Rattle.loading.specs.Loads.{refuses, framedBy}
 use Rattle.step.specs.Steps.{step, ending}
-use Rattle.script.specs.Scripts.{lineStep, run}
+use Rattle.feed.specs.Scripts.{lineStep, run}
 use Rattle.script.specs.Courses.{Steps}
 
 -- ---- the first line

@@ -15,7 +15,7 @@ use Rattle.step.specs.Steps.{step}
 use Rattle.step.specs.Calls.{Ready, Left, left, stepLeaves}
 use Rattle.step.proofs.Readies.{marks-counted}
 use Rattle.script.specs.declared.Went.{Went}
-use Rattle.script.specs.Scripts.{run}
+use Rattle.feed.specs.Scripts.{run}
 use Rattle.script.specs.Courses.{Steps, Going, Goes}
 use Rattle.script.proofs.Goings.{comes-as}
 use Rattle.script.proofs.Endings.{printed-part}

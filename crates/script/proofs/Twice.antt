@@ -19,7 +19,7 @@ use Rattle.loading.specs.States.{opening, scriptOf, stateOf}
 use Rattle.step.specs.Calls.{Ready}
 use Rattle.step.proofs.Readies.{opening-state, ready-opening}
 use Rattle.script.specs.declared.Went.{Went}
-use Rattle.script.specs.Scripts.{run, output}
+use Rattle.feed.specs.Scripts.{run, output}
 use Rattle.script.specs.Courses.{Going, Goes}
 
 -- ---- the opening

@@ -24,7 +24,7 @@ use Rattle.step.specs.Steps.{step}
 use Rattle.step.proofs.Framing.{core}
 use Rattle.step.proofs.Callings.{lined}
 use Rattle.step.proofs.TextLines.{opens}
-use Rattle.script.specs.Scripts.{output}
+use Rattle.feed.specs.Scripts.{output}
 use Rattle.script.specs.Undo.{script, textLine, accepted, Undone, UndoesScripts}
 use Rattle.script.proofs.Lines.{Plains, runs}
 use Rattle.script.proofs.Readings.{InversesRead}

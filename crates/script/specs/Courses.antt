@@ -10,7 +10,7 @@ use Rattle.text.specs.Text.{isLF}
 use Rattle.loading.specs.States.{State}
 use Rattle.step.specs.Steps.{step}
 use Rattle.script.specs.declared.Went.{Went}
-use Rattle.script.specs.Scripts.{run}
+use Rattle.feed.specs.Scripts.{run}
 
 -- From the lines of t on, a state prints what the step of l does, and then what the state after it prints from the lines of `rest` on.
 abbrev pub Steps : State → List ℕ → List ℕ → List ℕ → Type 0

@@ -15,7 +15,7 @@ use Rattle.frame.specs.Reads.{frameRead}
 use Rattle.marking.specs.MarkLines.{markLines}
 use Rattle.loading.specs.States.{State, textIn, bufferLimit, opening}
 use Rattle.step.specs.Steps.{lentTo, step}
-use Rattle.script.specs.Scripts.{output}
+use Rattle.feed.specs.Scripts.{output}
 
 -- some lines as a script, "each ended by LF"
 unfoldable pub script : List (List ℕ) → List ℕ

@@ -11,7 +11,7 @@ use step::opening;
 ghost use mathlib.Core.List.{[]};
 ghost use mathlib.Core.Path.{_≡_};
 ghost use Rattle.utf8.specs.Calls.{outcome};
-ghost use Rattle.script.specs.Scripts.{output};
+ghost use Rattle.feed.specs.Scripts.{output};
 ghost use Rattle.script.specs.Courses.{Goes};
 ghost use Rattle.script.specs.Calls.{paperRan, ranInto};
 

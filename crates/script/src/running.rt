@@ -12,7 +12,7 @@ ghost use Rattle.text.specs.Text.{isLF};
 ghost use Rattle.loading.specs.States.{State, stateOf};
 ghost use Rattle.step.specs.Steps.{step, ending};
 ghost use Rattle.step.specs.Calls.{Ready};
-ghost use Rattle.script.specs.Scripts.{run};
+ghost use Rattle.feed.specs.Scripts.{run};
 ghost use Rattle.script.specs.Courses.{Steps, Going, Goes};
 
 const LF: u8 = 10;

@@ -3,7 +3,7 @@ use borrow.Author.Tests.{not-true, not-false}
 use borrow.Author.Needs.{needs}
 use Rattle.loading.specs.States.{stateOf}
 use Rattle.step.specs.Steps.{ending}
-use Rattle.script.specs.Scripts.{output}
+use Rattle.feed.specs.Scripts.{output}
 use Rattle.script.proofs.Twice.{opens-ready, opens-run}
 use Rattle.script.proofs.Goings.{stays-long}
 use Rattle.script.proofs.run_over.Statement.{statement}

@@ -8,7 +8,7 @@ use Rattle.text.specs.Rows.{lines}
 use Rattle.text.specs.Text.{isLF}
 use Rattle.loading.specs.States.{stateOf}
 use Rattle.step.specs.Calls.{Ready}
-use Rattle.script.specs.Scripts.{run}
+use Rattle.feed.specs.Scripts.{run}
 use Rattle.script.specs.Courses.{Going}
 use Rattle.script.proofs.Stepping.{line-run}
 use Rattle.script.proofs.Reaches.{lines-over}
