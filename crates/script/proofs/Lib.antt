@@ -5,9 +5,7 @@ pub mod Forward
 pub mod Back
 pub mod Undo
 pub mod Goings
-pub mod Endings
-pub mod Reaches
-pub mod Stepping
+pub mod Feedings
 pub mod Twice
 pub mod Theorems
 pub mod Examples
