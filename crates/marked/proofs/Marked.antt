@@ -26,7 +26,7 @@ use Rattle.marking.specs.InOrder.{inOrder}
 use Rattle.marking.specs.MarkLines.{markLine, markLines}
 use Rattle.loading.specs.Loads.{loaded, framedBy}
 use Rattle.step.specs.Steps.{carried, answered, ran, step, ending}
-use Rattle.script.specs.Scripts.{lineStep, run}
+use Rattle.feed.specs.Scripts.{lineStep, run}
 use Rattle.marked.specs.Marked.{Marked}
 
 pub marked : Marked

@@ -16,7 +16,7 @@ use Rattle.edit.specs.Demand3.{viewAt, lentAt}
 use Rattle.edit.specs.Examples.{opened, beside, Gives, Refuses, plain, abcdef, abcd}
 use Rattle.merge.specs.Call.{outcome, mergedIn}
 use Rattle.shift.specs.Examples.{Lands}
-use Rattle.script.specs.Scripts.{output}
+use Rattle.feed.specs.Scripts.{output}
 
 -- the run's lines, character by character: 48 is 0, 97 is a, 10 ends a line
 --     0161620a6364

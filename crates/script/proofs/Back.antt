@@ -17,7 +17,7 @@ use Rattle.loading.specs.States.{State, textIn, bufferLimit}
 use Rattle.step.specs.Steps.{step, ending}
 use Rattle.step.proofs.Framing.{core, saw, edit-step}
 use Rattle.step.proofs.Callings.{lined, accepted-leaves}
-use Rattle.script.specs.Scripts.{lineStep, run, output}
+use Rattle.feed.specs.Scripts.{lineStep, run, output}
 use Rattle.script.specs.Undo.{script, rows, lastOf, starts, accepted, inversesIn, textLine, textLineIn, textsFrom, texts, Accepts}
 use Rattle.script.proofs.Lines.{Plains, none as no-lines, more as more-lines, run-row, texts-row, printed-more}
 use Rattle.script.proofs.Printings.{accepted-plain, zero-starts, last-of, inverses-accepted, found}

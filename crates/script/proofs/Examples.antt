@@ -5,6 +5,7 @@ use Rattle.after.specs.After.{afterDeleteBlock, afterDeleteBlockChunks, afterDe
 use Rattle.edit.specs.Call.{applied, firstOf, isUndoable, leaves, rangeUndoable, resultOf, undoable}
 use Rattle.edit.specs.Edits.{anyFlag, blockInserted, charsDeleted, chunksDeleted, chunksOf, cutAll, editedBy, gap, inserted, joinCols, joinFlags, joinRow, joined, lineFrom, lineTo, linesDeleted, padsOf, pieces, put, putAll, rangeDeleted, replaced, split, splitFirst, splitRow, unspace}
 use Rattle.edit.specs.Refusals.{fewOk, fewRows, payloadOk, recordOk, roomOk, smallOk, smallRange, sum, withinAll, withinFirst, withinOk}
+use Rattle.feed.specs.Scripts.{lineStep, run}
 use Rattle.frame.specs.Format.{chunkBytes, columnBytes, editBytes, frameBytes, widthBytes}
 use Rattle.frame.specs.Forms.{before, blockForm, blockOf, chunksForm, columnsIn, deleteForm, flagged, flagsIn, formBy, insertForm, joinForm, kindForm, lineForm, markForm, padsIn, replaceForm, splitForm, stringsFrom, widthsIn}
 use Rattle.frame.specs.Numbers.{items, numberIn}
@@ -15,7 +16,6 @@ use Rattle.loading.specs.Loads.{framedBy, loaded}
 use Rattle.marking.specs.InOrder.{inOrder}
 use Rattle.marking.specs.MarkLines.{markLine, markLines}
 use Rattle.place.specs.Places.{placed, seen}
-use Rattle.script.specs.Scripts.{lineStep, run}
 use Rattle.shift.specs.Call.{orderedOk, orderedRange, selShifted}
 use Rattle.shift.specs.Kinds.{afterDelete, shifted}
 use Rattle.step.specs.Steps.{answered, carried, ending, ran, step}

@@ -16,7 +16,7 @@ use Rattle.frame.proofs.Theorems.{line-done, writes-read}
 use Rattle.loading.specs.States.{State, textIn, opening}
 use Rattle.step.proofs.TextLines.{opens-sound}
 use Rattle.step.proofs.Ways.{Same, Loads, Goes, edits, loads, keeps, refuses-by}
-use Rattle.script.specs.Scripts.{lineStep}
+use Rattle.feed.specs.Scripts.{lineStep}
 use Rattle.script.specs.Undo.{starts, starting, textLine, textsFrom, Opens}
 use Rattle.script.proofs.Printings.{nothing-starts, byte-starts}
 use Rattle.script.proofs.Readings.{text-read}

@@ -26,7 +26,7 @@ use Rattle.step.specs.Steps.{lentTo, step, ending}
 use Rattle.step.proofs.Framing.{core}
 use Rattle.step.proofs.Callings.{lined, undoable-called}
 use Rattle.step.proofs.Ways.{Same, Edits, Goes, edits, loads, keeps, refuses-by, line-goes}
-use Rattle.script.specs.Scripts.{lineStep, run}
+use Rattle.feed.specs.Scripts.{lineStep, run}
 use Rattle.script.specs.Undo.{script, starts, starting, accepted, inversesIn, textsFrom, yes, saysYes, undoableFrom}
 use Rattle.script.proofs.Lines.{Plains, none, more, both-plain, script-append, printed-more}
 use Rattle.script.proofs.Openings.{Fit, text-ok}

@@ -7,9 +7,7 @@ pub mod Firsts
 pub mod Back
 pub mod Undo
 pub mod Goings
-pub mod Endings
-pub mod Reaches
-pub mod Stepping
+pub mod Feedings
 pub mod Twice
 pub mod Theorems
 pub mod Examples

@@ -8,7 +8,7 @@ use Rattle.text.specs.Text.{isLF}
 use Rattle.text.proofs.Ended.{Plain, plain-front}
 use Rattle.loading.specs.States.{State, textIn}
 use Rattle.step.specs.Steps.{step}
-use Rattle.script.specs.Scripts.{lineStep, run}
+use Rattle.feed.specs.Scripts.{lineStep, run}
 use Rattle.script.specs.Undo.{script, rows, starts, textsFrom}
 
 -- lines without LF

@@ -18,7 +18,7 @@ use Rattle.loading.specs.States.{State, textIn, bufferLimit, opening}
 use Rattle.step.specs.Steps.{step, ending}
 use Rattle.step.proofs.Framing.{core}
 use Rattle.step.proofs.TextLines.{Loaded, opens}
-use Rattle.script.specs.Scripts.{run, output}
+use Rattle.feed.specs.Scripts.{run, output}
 use Rattle.script.specs.Undo.{script, textLine, textsFrom, texts}
 use Rattle.script.proofs.Lines.{run-row, texts-row, script-append}
 use Rattle.script.proofs.Printings.{nothing-starts}

@@ -10,8 +10,6 @@ use lib.Seq.{take-all}
 use Rattle.promise.specs.Paper.{done, refused}
 use Rattle.promise.specs.Slices.{over}
 use Rattle.promise.proofs.Bools.{known}
-use Rattle.text.specs.Rows.{lines}
-use Rattle.text.specs.Text.{isLF}
 use Rattle.utf8.specs.Calls.{outcome, stored}
 use Rattle.utf8.proofs.Stores.{stored-not, stored-all}
 use Rattle.loading.specs.declared.Script.{Script}
@@ -19,7 +17,9 @@ use Rattle.loading.specs.States.{opening, scriptOf, stateOf}
 use Rattle.step.specs.Calls.{Ready}
 use Rattle.step.proofs.Readies.{opening-state, ready-opening}
 use Rattle.script.specs.declared.Went.{Went}
-use Rattle.script.specs.Scripts.{run, output}
+use Rattle.feed.specs.Scripts.{output}
+use Rattle.feed.specs.Feeds.{fedBy, whole}
+use Rattle.feed.proofs.Wholes.{whole-output}
 use Rattle.script.specs.Courses.{Going, Goes}
 
 -- ---- the opening
@@ -29,8 +29,8 @@ module _ (c : Script) (e : c ≡ scriptOf opening) where
   opens-ready = rw e ready-opening
 
   pub opens-run : (keep : Bool) (w b : List ℕ) (r : Went) (rest a : List ℕ)
-      → Goes keep (run (stateOf c (replicate 4_096 0) (replicate 320 0)) (lines isLF w)) b r rest a → Goes keep (output w) b r rest a
-  opens-run keep w b r rest a g = rw (e, opening-state) at g
+      → Goes keep (whole (fedBy (stateOf c (replicate 4_096 0) (replicate 320 0)) [] w)) b r rest a → Goes keep (output w) b r rest a
+  opens-run keep w b r rest a g = rw (e, opening-state, whole-output) at g
 
 -- ---- both runs
 

@@ -15,7 +15,7 @@ use Rattle.edit.proofs.Undo.{alike}
 use Rattle.loading.specs.States.{textIn, bufferLimit, opening}
 use Rattle.step.proofs.Framing.{core}
 use Rattle.step.proofs.Callings.{lined}
-use Rattle.script.specs.Scripts.{output}
+use Rattle.feed.specs.Scripts.{output}
 use Rattle.script.specs.Undo.{rows, lastOf, inversesIn, textLine, textLineIn, undo, Undone, UndoesScripts}
 use Rattle.script.proofs.Printings.{found}
 use Rattle.script.proofs.Readings.{AllRead, inverses-read, reverse-read, lines-reverse}

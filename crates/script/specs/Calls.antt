@@ -5,7 +5,7 @@ use Rattle.promise.specs.Paper.{Paper, done, refused}
 use Rattle.utf8.specs.Calls.{Outcome, stored}
 use Rattle.script.specs.declared.Ran.{Ran}
 use Rattle.script.specs.declared.Ran.the-variants.{Bytes, NoRoom}
-use Rattle.script.specs.Scripts.{output}
+use Rattle.feed.specs.Scripts.{output}
 
 abbrev pub paperRan : Ran → Paper ℕ
 paperRan (Bytes n) = done n

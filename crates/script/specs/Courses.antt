@@ -1,20 +1,11 @@
 -- What a run has printed: it goes over the slice lent for its output, and where `keep` is false it only counts.
 use mathlib.Core.Bool.{Bool, true, false, cond}
-use mathlib.Core.List.{List, _++_}
+use mathlib.Core.List.{List}
 use mathlib.Core.Path.{_≡_}
 use Prim.Native.Nat.{ℕ, _≤_, _<_}
 use lib.ListN.{length, take, drop}
 use Rattle.promise.specs.Slices.{over}
-use Rattle.text.specs.Rows.{lines}
-use Rattle.text.specs.Text.{isLF}
-use Rattle.loading.specs.States.{State}
-use Rattle.step.specs.Steps.{step}
 use Rattle.script.specs.declared.Went.{Went}
-use Rattle.script.specs.Scripts.{run}
-
--- From the lines of t on, a state prints what the step of l does, and then what the state after it prints from the lines of `rest` on.
-abbrev pub Steps : State → List ℕ → List ℕ → List ℕ → Type 0
-Steps s t l rest = run s (lines isLF t) ≡ step s l .printed ++ run (step s l .state) (lines isLF rest)
 
 -- Of w, all that is to be printed, the first k are, and `rest` is still to come; the slice held `before`, and holds `after` now.
 pub record Going (keep : Bool) (w before : List ℕ) (k : ℕ) (rest after : List ℕ) : Type 0 where

@@ -10,7 +10,7 @@ use Rattle.utf8.specs.Calls.{outcome}
 use Rattle.text.specs.Rows.{at}
 use Rattle.hex.specs.Digits.{hexed}
 use Rattle.frame.specs.Numbers.{number, position}
-use Rattle.script.specs.Scripts.{output}
+use Rattle.feed.specs.Scripts.{output}
 use Rattle.script.specs.Calls.{ranInto}
 use Rattle.script.specs.Undo.{script, textLine, accepted, undo, texts, allUndoable}
 

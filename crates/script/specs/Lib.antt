@@ -1,4 +1,3 @@
-pub mod Scripts
 pub mod Courses
 pub mod Calls
 pub mod Undo

@@ -14,7 +14,7 @@ use Rattle.frame.specs.Format.{Frame, text, mark, edit, frameBytes}
 use Rattle.frame.specs.Reads.{frameRead}
 use Rattle.loading.specs.States.{State, textIn, bufferLimit, opening}
 use Rattle.step.specs.Steps.{lentTo}
-use Rattle.script.specs.Scripts.{lineStep, output}
+use Rattle.feed.specs.Scripts.{lineStep, output}
 
 -- some lines as a script, "each ended by LF", and the lines of a script or of an output
 unfoldable pub script : List (List ℕ) → List ℕ

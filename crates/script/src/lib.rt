@@ -1,17 +1,19 @@
 // A whole script on slices: the bytes of its lines, and a slice for all that it prints.
 mod emitting;
-mod running;
+mod feeding;
 
-use emitting::end_script;
-use running::run_lines;
-use step::LINE_ROOM;
+use emitting::add_part;
+use feed::CLOSING_ROOM;
+use feed::HELD_ROOM;
+use feed::close;
+use feeding::feed_all;
 use step::MARK_ROOM;
 use step::TEXT_ROOM;
 use step::opening;
 ghost use mathlib.Core.List.{[]};
 ghost use mathlib.Core.Path.{_≡_};
 ghost use Rattle.utf8.specs.Calls.{outcome};
-ghost use Rattle.script.specs.Scripts.{output};
+ghost use Rattle.feed.specs.Scripts.{output};
 ghost use Rattle.script.specs.Courses.{Goes};
 ghost use Rattle.script.specs.Calls.{paperRan, ranInto};
 
@@ -33,22 +35,25 @@ fn run_over(input: &[u8], out: &mut [u8], keep: bool) -> Went
 {
     let mut text = [0u32; TEXT_ROOM];
     let mut marks = [0u32; MARK_ROOM];
-    let mut line = [0u8; LINE_ROOM];
-    let course = run_lines(
+    let mut line = [0u8; HELD_ROOM];
+    let mut room = [0u8; CLOSING_ROOM];
+    let fed = feed_all(
         opening(),
         input,
+        &mut line,
         &mut text,
         &mut marks,
-        &mut line,
+        &mut room,
         out,
         keep,
     );
-    let script = course.script;
-    let went = course.went;
+    let script = fed.script;
+    let went = fed.went;
     if !went.fits {
         return went;
     }
-    end_script(script, &text, &marks, &mut line, out, went.printed, keep)
+    let size = close(script, fed.pending, &text, &marks, &mut room);
+    add_part(&room[0..size], out, went.printed, keep)
 }
 
 // A refusal changes nothing that is lent, so the script is run twice: the first time to see whether all that it prints fits.

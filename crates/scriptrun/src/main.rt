@@ -1,215 +1,184 @@
-// Runs a script: reads its lines from standard input, prints what each answers, and at the end the text and the marks. A line may come in
-// pieces and be of any length.
+// Runs a script: feeds it what comes on standard input and writes what that prints, piece by piece, and at the end the text and the marks. A read or a
+// write that fails is a line on standard error, and nothing is printed behind it.
+mod streams;
+
+use crate::streams::is_to_try_again;
+use crate::streams::print;
+use feed::HELD_ROOM;
+use feed::close;
+use feed::feed;
 use libc::STDIN_FILENO;
-use libc::STDOUT_FILENO;
 use loading::Script;
-use marking::print_mark;
-use printing::print_text;
-use step::LINE_ROOM;
 use step::MARK_ROOM;
 use step::TEXT_ROOM;
 use step::opening;
-use step::step;
 ghost use mathlib.Core.Path.{_≡_};
-ghost use Prim.Native.Nat.{_+_, _≤_};
-ghost use lib.ListN.{length};
-ghost use Rattle.loading.specs.States.{scriptOf, opening as start};
+ghost use Prim.Native.Nat.{_≤_};
+ghost use lib.ListN.{length, take};
+ghost use Rattle.io.specs.Counts.{clamped};
+ghost use Rattle.loading.specs.States.{stateOf, scriptOf, opening as start};
 ghost use Rattle.step.specs.Calls.{Ready};
+ghost use Rattle.feed.specs.Feeds.{fedBy};
+ghost use Rattle.scriptrun.specs.Runs.{Come, Stands};
 
-const LF: u8 = 10;
-
-// One more than a line's digits: a line that fills it is too long, whatever follows.
-const PENDING_ROOM: usize = 36_865;
-
-// The script, how much of a line has come, how much is gathered to be written, and whether the input has ended.
-struct Feed {
+// The script, how much of a line is held, whether more of the input is to be read, and whether nothing has failed.
+struct Stand {
     script: Script,
     pending: usize,
-    gathered: usize,
-    ended: bool,
+    open: bool,
+    sound: bool,
 }
 
-// Writes what is gathered, unless there is room for another line; how much is gathered then.
-fn make_room(gathered: usize, out: &[u8]) -> usize
-    requires { ⌜ (gathered ≤ length (now out)) × (36_867 ≤ length (now out)) ⌝ }
-    ensures { λ r. ⌜ r + 36_867 ≤ length (now (out .entry)) ⌝ }
-{
-    if LINE_ROOM <= out.len() - gathered {
-        return gathered;
-    }
-    io::write_all(STDOUT_FILENO, &out[0..gathered]);
-    0
-}
-
-fn run_line(feed: Feed, line: &[u8], text: &mut [u32], marks: &mut [u32], out: &mut [u8]) -> Feed
-    requires { ⌜ Ready (feed .script) (now text) (now marks) × (feed .gathered ≤ length (now out)) × (36_867 ≤ length (now out)) ⌝ }
-    ensures { λ r. ⌜ Ready (r .script) (now (text .exit)) (now (marks .exit)) × (r .pending ≤ 0) × (r .gathered ≤ length (now (out .entry))) ⌝ }
-{
-    let script = feed.script;
-    let start = make_room(feed.gathered, out);
-    let progress = step(script, line, text, marks, &mut out[start..]);
-    let after = progress.script;
-    Feed {
-        script: after,
-        pending: 0,
-        gathered: start + progress.printed,
-        ended: false,
-    }
-}
-
-fn take_byte(
-    feed: Feed,
-    byte: u8,
-    line: &mut [u8],
-    text: &mut [u32],
-    marks: &mut [u32],
-    out: &mut [u8],
-) -> Feed
-    requires { ⌜ Ready (feed .script) (now text) (now marks) × (feed .pending ≤ length (now line)) × (feed .gathered ≤ length (now out)) × (36_867 ≤ length (now out)) ⌝ }
-    ensures { λ r. ⌜ Ready (r .script) (now (text .exit)) (now (marks .exit)) × (r .pending ≤ length (now (line .entry))) × (r .gathered ≤ length (now (out .entry))) ⌝ }
-{
-    let pending = feed.pending;
-    if byte == LF {
-        return run_line(feed, &line[0..pending], text, marks, out);
-    }
-    if line.len() <= pending {
-        return feed;
-    }
-    line[pending] = byte;
-    let script = feed.script;
-    Feed {
-        script,
-        pending: pending + 1,
-        gathered: feed.gathered,
-        ended: false,
-    }
-}
-
+// Every byte is fed, in order and once, and what they print is written.
 fn take_bytes(
-    feed: Feed,
+    stand: Stand,
     bytes: &[u8],
     line: &mut [u8],
     text: &mut [u32],
     marks: &mut [u32],
     out: &mut [u8],
-) -> Feed
-    requires { ⌜ Ready (feed .script) (now text) (now marks) × (feed .pending ≤ length (now line)) × (feed .gathered ≤ length (now out)) × (36_867 ≤ length (now out)) ⌝ }
-    ensures { λ r. ⌜ Ready (r .script) (now (text .exit)) (now (marks .exit)) × (r .pending ≤ length (now (line .entry))) × (r .gathered ≤ length (now (out .entry))) ⌝ }
+) -> Stand
+    requires { ⌜ Ready (stand .script) (now text) (now marks) × (stand .pending ≤ 36_865) × (36_865 ≤ length (now line)) × (36_867 ≤ length (now out)) ⌝ }
+    requires { ⌜ Come (stateOf (stand .script) (now text) (now marks)) (take (stand .pending) (now line)) ⌝ }
+    ensures { λ r. ⌜ Ready (r .script) (now (text .exit)) (now (marks .exit)) × (r .pending ≤ 36_865) ⌝ }
+    ensures { λ r. ⌜ Stands (stateOf (r .script) (now (text .exit)) (now (marks .exit))) (take (r .pending) (now (line .exit))) (fedBy (stateOf (stand .script) (now (text .entry)) (now (marks .entry))) (take (stand .pending) (now (line .entry))) (now (bytes .entry))) ⌝ }
 {
-    let mut fed = feed;
-    let mut i = 0;
-    while i < bytes.len() {
-        fed = take_byte(fed, bytes[i], line, text, marks, out);
-        i += 1;
+    let mut current = stand.script;
+    let mut pending = stand.pending;
+    let mut sound = stand.sound;
+    let mut at = 0;
+    while at < bytes.len() {
+        let course = feed(current, pending, line, &bytes[at..], text, marks, out);
+        let size = course.printed;
+        sound = print(&out[0..size], sound);
+        current = course.script;
+        pending = course.pending;
+        at += course.taken;
     }
-    fed
-}
-
-// The lines of the marks.
-fn print_marks(marks: &[u32], count: usize, out: &mut [u8])
-    requires { ⌜ (length (now marks) ≡ 320) × (count ≤ 64) × (36_867 ≤ length (now out)) ⌝ }
-{
-    let mut i = 0;
-    while i < count {
-        let length = print_mark(&marks[i * 5..i * 5 + 5], out);
-        io::write_all(STDOUT_FILENO, &out[0..length]);
-        i += 1;
+    Stand {
+        script: current,
+        pending,
+        open: sound,
+        sound,
     }
 }
 
-// A last line that the end of the input cuts off is malformed, as an empty one is.
-fn end_input(feed: Feed, text: &mut [u32], marks: &mut [u32], out: &mut [u8]) -> Feed
-    requires { ⌜ Ready (feed .script) (now text) (now marks) × (feed .gathered ≤ length (now out)) × (36_867 ≤ length (now out)) ⌝ }
-    ensures { λ r. ⌜ Ready (r .script) (now (text .exit)) (now (marks .exit)) × (r .gathered ≤ length (now (out .entry))) ⌝ }
+// Where a read brought nothing: the input has ended, or the read is to be made again, or it failed.
+fn take_nothing(stand: Stand, got: isize) -> Stand
+    ensures { λ r. ⌜ (r .script ≡ stand .script) × (r .pending ≡ stand .pending) ⌝ }
 {
-    if feed.pending == 0 {
-        return feed;
+    let script = stand.script;
+    let pending = stand.pending;
+    let sound = stand.sound;
+    if got == 0 {
+        return Stand {
+            script,
+            pending,
+            open: false,
+            sound,
+        };
     }
-    let empty = [0u8; 1];
-    run_line(feed, &empty[0..0], text, marks, out)
+    if is_to_try_again() {
+        return Stand {
+            script,
+            pending,
+            open: true,
+            sound,
+        };
+    }
+    os::fail(b"scriptrun: standard input");
+    Stand {
+        script,
+        pending,
+        open: false,
+        sound: false,
+    }
 }
 
-fn print_ending(script: Script, text: &[u32], marks: &[u32], out: &mut [u8])
-    requires { ⌜ Ready script (now text) (now marks) × (36_867 ≤ length (now out)) ⌝ }
-{
-    let view = script.view;
-    let place = script.place;
-    let used = view.used;
-    let count = place.marks;
-    let length = print_text(&text[0..used], out);
-    io::write_all(STDOUT_FILENO, &out[0..length]);
-    print_marks(marks, count, out);
-}
-
-// What has come of the input.
-fn read_some(
-    feed: Feed,
+// What a read answered and put in front of `input`: every byte of it is fed, and no other.
+fn take_read(
+    stand: Stand,
+    got: isize,
+    input: &[u8],
     line: &mut [u8],
     text: &mut [u32],
     marks: &mut [u32],
     out: &mut [u8],
-) -> Feed
-    requires { ⌜ Ready (feed .script) (now text) (now marks) × (feed .pending ≤ length (now line)) × (feed .gathered ≤ length (now out)) × (36_867 ≤ length (now out)) ⌝ }
-    ensures { λ r. ⌜ Ready (r .script) (now (text .exit)) (now (marks .exit)) × (r .pending ≤ length (now (line .entry))) × (r .gathered ≤ length (now (out .entry))) ⌝ }
+) -> Stand
+    requires { ⌜ Ready (stand .script) (now text) (now marks) × (stand .pending ≤ 36_865) × (36_865 ≤ length (now line)) × (36_867 ≤ length (now out)) ⌝ }
+    requires { ⌜ Come (stateOf (stand .script) (now text) (now marks)) (take (stand .pending) (now line)) ⌝ }
+    ensures { λ r. ⌜ Ready (r .script) (now (text .exit)) (now (marks .exit)) × (r .pending ≤ 36_865) ⌝ }
+    ensures { λ r. ⌜ Stands (stateOf (r .script) (now (text .exit)) (now (marks .exit))) (take (r .pending) (now (line .exit))) (fedBy (stateOf (stand .script) (now (text .entry)) (now (marks .entry))) (take (stand .pending) (now (line .entry))) (take (clamped got (length (now (input .entry)))) (now (input .entry)))) ⌝ }
+{
+    let count = io::count(got, input);
+    if count == 0 {
+        return take_nothing(stand, got);
+    }
+    take_bytes(stand, &input[0..count], line, text, marks, out)
+}
+
+// One read, and what comes of it.
+fn read_some(
+    stand: Stand,
+    line: &mut [u8],
+    text: &mut [u32],
+    marks: &mut [u32],
+    out: &mut [u8],
+) -> Stand
+    requires { ⌜ Ready (stand .script) (now text) (now marks) × (stand .pending ≤ 36_865) × (36_865 ≤ length (now line)) × (36_867 ≤ length (now out)) ⌝ }
+    requires { ⌜ Come (stateOf (stand .script) (now text) (now marks)) (take (stand .pending) (now line)) ⌝ }
+    ensures { λ r. ⌜ Ready (r .script) (now (text .exit)) (now (marks .exit)) × (r .pending ≤ 36_865) ⌝ }
+    ensures { λ r. ⌜ Come (stateOf (r .script) (now (text .exit)) (now (marks .exit))) (take (r .pending) (now (line .exit))) ⌝ }
 {
     let mut input = io::large_buffer();
     let got = libc::read(STDIN_FILENO, &mut input);
-    let count = io::count(got, &input);
-    if count == 0 {
-        let script = feed.script;
-        return Feed {
-            script,
-            pending: feed.pending,
-            gathered: feed.gathered,
-            ended: true,
-        };
-    }
-    take_bytes(feed, &input[0..count], line, text, marks, out)
+    take_read(stand, got, &input, line, text, marks, out)
 }
 
 // All of the input. A proved loop has to end, so it counts its turns down from a number that no input uses up.
 fn read_all(
-    feed: Feed,
+    stand: Stand,
     line: &mut [u8],
     text: &mut [u32],
     marks: &mut [u32],
     out: &mut [u8],
-) -> Feed
-    requires { ⌜ Ready (feed .script) (now text) (now marks) × (feed .pending ≤ length (now line)) × (feed .gathered ≤ length (now out)) × (36_867 ≤ length (now out)) ⌝ }
-    ensures { λ r. ⌜ Ready (r .script) (now (text .exit)) (now (marks .exit)) × (r .gathered ≤ length (now (out .entry))) ⌝ }
+) -> Stand
+    requires { ⌜ Ready (stand .script) (now text) (now marks) × (stand .pending ≤ 36_865) × (36_865 ≤ length (now line)) × (36_867 ≤ length (now out)) ⌝ }
+    requires { ⌜ Come (stateOf (stand .script) (now text) (now marks)) (take (stand .pending) (now line)) ⌝ }
+    ensures { λ r. ⌜ Ready (r .script) (now (text .exit)) (now (marks .exit)) × (r .pending ≤ 36_865) ⌝ }
+    ensures { λ r. ⌜ Come (stateOf (r .script) (now (text .exit)) (now (marks .exit))) (take (r .pending) (now (line .exit))) ⌝ }
 {
-    let mut fed = feed;
+    let mut read = stand;
     let mut turns = u64::MAX;
     while turns > 0 {
-        if fed.ended {
-            return fed;
+        if !read.open {
+            return read;
         }
-        fed = read_some(fed, line, text, marks, out);
+        read = read_some(read, line, text, marks, out);
         turns -= 1;
     }
-    fed
+    read
 }
 
 // The script from its opening to its ending.
 fn run(line: &mut [u8], text: &mut [u32], marks: &mut [u32], out: &mut [u8])
-    requires { ⌜ Ready (scriptOf start) (now text) (now marks) × (36_867 ≤ length (now out)) ⌝ }
+    requires { ⌜ Ready (scriptOf start) (now text) (now marks) × (stateOf (scriptOf start) (now text) (now marks) ≡ start) × (36_865 ≤ length (now line)) × (39_110 ≤ length (now out)) ⌝ }
 {
-    let feed = Feed {
+    let first = Stand {
         script: opening(),
         pending: 0,
-        gathered: 0,
-        ended: false,
+        open: true,
+        sound: true,
     };
-    let read = read_all(feed, line, text, marks, out);
-    let ended = end_input(read, text, marks, out);
-    let gathered = ended.gathered;
-    let script = ended.script;
-    io::write_all(STDOUT_FILENO, &out[0..gathered]);
-    print_ending(script, text, marks, out);
+    let last = read_all(first, line, text, marks, out);
+    let script = last.script;
+    let sound = last.sound;
+    let size = close(script, last.pending, text, marks, out);
+    print(&out[0..size], sound);
 }
 
 fn main() {
-    let mut line = [0u8; PENDING_ROOM];
+    let mut line = [0u8; HELD_ROOM];
     let mut text = [0u32; TEXT_ROOM];
     let mut marks = [0u32; MARK_ROOM];
     let mut out = [0u8; 131_072];

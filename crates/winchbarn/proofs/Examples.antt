@@ -5,6 +5,7 @@ use Rattle.after.specs.After.{afterDeleteBlock, afterDeleteBlockChunks, afterDe
 use Rattle.edit.specs.Call.{applied, firstOf, isUndoable, leaves, rangeUndoable, resultOf, undoable}
 use Rattle.edit.specs.Edits.{anyFlag, blockInserted, charsDeleted, chunksDeleted, chunksOf, cutAll, editedBy, gap, inserted, joinCols, joinFlags, joinRow, joined, lineFrom, lineTo, linesDeleted, padsOf, pieces, put, putAll, rangeDeleted, replaced, split, splitFirst, splitRow, unspace}
 use Rattle.edit.specs.Refusals.{fewOk, fewRows, payloadOk, recordOk, roomOk, smallOk, smallRange, sum, wide, withinAll, withinFirst, withinOk}
+use Rattle.feed.specs.Scripts.{lineStep, run}
 use Rattle.fit.specs.Calls.{firstOver}
 use Rattle.frame.specs.Format.{chunkBytes, columnBytes, editBytes, editChars, frameBytes, frameChars, hasBytes, hasFrame, widthBytes}
 use Rattle.frame.specs.Forms.{before, blockForm, blockOf, chunksForm, columnsIn, deleteForm, flagged, flagsIn, formBy, insertForm, joinForm, kindForm, lineForm, markForm, padsIn, replaceForm, splitForm, stringsFrom, widthsIn}
@@ -21,7 +22,6 @@ use Rattle.merge.specs.Call.{leaves as leaves-merge, mergedIn}
 use Rattle.merge.specs.Merging.{collapse, collapsed}
 use Rattle.place.specs.Places.{placed, seen}
 use Rattle.plain.specs.Meanings.{item}
-use Rattle.script.specs.Scripts.{lineStep, run}
 use Rattle.select.specs.Selections.{blockSpan, charSpan, lineSpan}
 use Rattle.shift.specs.Call.{orderedOk, orderedRange, positionShifted, selShifted}
 use Rattle.shift.specs.Kinds.{afterDelete, shifted}

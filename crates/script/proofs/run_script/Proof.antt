@@ -1,6 +1,6 @@
 use borrow.Author.Tests.{not-true, not-false}
 use borrow.Author.Needs.{needs}
-use Rattle.script.specs.Scripts.{output}
+use Rattle.feed.specs.Scripts.{output}
 use Rattle.script.proofs.Twice.{ran-not, ran-whole}
 use Rattle.script.proofs.run_script.Statement.{statement}
 use Rattle.script.proofs.run_script.Tie as tie

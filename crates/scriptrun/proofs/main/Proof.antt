@@ -1,8 +1,8 @@
-use Rattle.step.proofs.Readies.{ready-opening}
 use Prim.Native.Nat.{ℕ}
-use lib.ListN.{length-replicate}
 use native.Mathlib.Omega.{arith}
 use borrow.Author.Needs.{needs}
+use lib.ListN.{length-replicate}
+use Rattle.step.proofs.Readies.{ready-opening, opening-state}
 use Rattle.scriptrun.proofs.main.Statement.{statement}
 use Rattle.scriptrun.proofs.main.Tie as tie
 
@@ -19,7 +19,7 @@ slice-aggregate-run-4 : tie.Need-slice-aggregate-run-4
 slice-aggregate-run-4 c = search needs
 
 run-requires : tie.Need-run-requires
-run-requires c κs = (ready-opening, omega (arith, length-replicate {A = ℕ} 131_072 0))
+run-requires c κs = (ready-opening, opening-state, omega (arith, length-replicate {A = ℕ} 36_865 0), omega (arith, length-replicate {A = ℕ} 131_072 0))
 
 returns : tie.Need-returns
 returns c = search needs

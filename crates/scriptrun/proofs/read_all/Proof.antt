@@ -1,20 +1,23 @@
-use Rattle.step.specs.Calls.{Ready}
-use mathlib.Core.Path.{_≡_, _∙_}
+use mathlib.Core.Path.{_≡_, refl, _∙_}
 use Prim.Native.Nat.{_≤_}
-use lib.ListN.{length}
 use native.Mathlib.Omega.{arith}
 use borrow.Author.Needs.{needs}
+use lib.ListN.{length, take}
+use Rattle.loading.specs.States.{stateOf}
+use Rattle.step.specs.Calls.{Ready}
+use Rattle.scriptrun.specs.Runs.{Come}
 use Rattle.scriptrun.proofs.read_all.Statement.{statement}
 use Rattle.scriptrun.proofs.read_all.Tie as tie
 
 abbrev Inv-loop : tie.InvT-loop
-Inv-loop line₀ text₀ marks₀ out₀ fed₀ turns₀ line text marks out fed turns = (length line ≡ length line₀) × (length text ≡ length text₀) × (length marks ≡ length marks₀) × (length out ≡ length out₀) × Ready (fed .script) text marks × (fed .pending ≤ length line) × (fed .gathered ≤ length out)
+Inv-loop line₀ text₀ marks₀ out₀ read₀ turns₀ line text marks out read turns =
+    (length line ≡ length line₀) × (length text ≡ length text₀) × (length marks ≡ length marks₀) × (length out ≡ length out₀) × Ready (read .script) text marks × (read .pending ≤ 36_865) × Come (stateOf (read .script) text marks) (take (read .pending) line)
 
 abbrev μ-loop : tie.MeasureT-loop
-μ-loop line₀ text₀ marks₀ out₀ fed₀ turns₀ line text marks out fed turns = turns
+μ-loop line₀ text₀ marks₀ out₀ read₀ turns₀ line text marks out read turns = turns
 
 loop-holds : tie.Need-loop-holds Inv-loop μ-loop
-loop-holds c = search needs
+loop-holds c = let p = c .before .before .before .before .pre in (refl, refl, refl, refl, p .0 .0, p .0 .1, p .1)
 
 same-length : tie.Need-same-length Inv-loop μ-loop
 same-length c = search needs
@@ -29,10 +32,10 @@ same-length-4 : tie.Need-same-length-4 Inv-loop μ-loop
 same-length-4 c = search needs
 
 returns : tie.Need-returns Inv-loop μ-loop
-returns c = search needs
+returns c = let v = c .before .before .before .loop .inv in ((v .4, v .5), v .6)
 
 read-some-requires : tie.Need-read-some-requires Inv-loop μ-loop
-read-some-requires c κs = search needs
+read-some-requires c κs = let v = c .before .before .before .before .before .before .before .loop .inv in let p = c .before .before .before .before .before .before .before .before .before .before .before .before .pre in ((v .4, v .5, omega (arith, v .0, p .0 .2), omega (arith, v .3, p .0 .3)), v .6)
 
 sub-turns : tie.Need-sub-turns Inv-loop μ-loop
 sub-turns c = search needs
@@ -41,7 +44,7 @@ loop-less : tie.Need-loop-less Inv-loop μ-loop
 loop-less c = search needs
 
 loop-again : tie.Need-loop-again Inv-loop μ-loop
-loop-again c = let t = c .before .before .before .before .before .before .before .before .read-some .ensures in let v = c .before .before .before .before .before .before .before .before .before .before .before .before .before .before .before .loop .inv in (c .before .before .before .before .before .before .before .line .given ∙ v .0, c .before .before .before .before .before .text .given ∙ v .1, c .before .before .before .marks .given ∙ v .2, c .before .out .given ∙ v .3, t .0, omega (arith, t .1), omega (arith, t .2))
+loop-again c = let v = c .before .before .before .before .before .before .before .before .before .before .before .before .before .before .before .before .loop .inv in let t = c .before .before .before .before .before .before .before .before .read-some .ensures in (c .before .before .before .before .before .before .before .line .given ∙ v .0, c .before .before .before .before .before .text .given ∙ v .1, c .before .before .before .marks .given ∙ v .2, c .before .out .given ∙ v .3, t .0 .0, t .0 .1, t .1)
 
 same-length-5 : tie.Need-same-length-5 Inv-loop μ-loop
 same-length-5 c = search needs
@@ -56,7 +59,7 @@ same-length-8 : tie.Need-same-length-8 Inv-loop μ-loop
 same-length-8 c = search needs
 
 returns-2 : tie.Need-returns-2 Inv-loop μ-loop
-returns-2 c = search needs
+returns-2 c = let v = c .before .loop .inv in ((v .4, v .5), v .6)
 
 pub read-all-spec : {M : Type 1} → statement M
 read-all-spec =

@@ -1,5 +1,7 @@
 use native.Mathlib.Omega.{arith}
 use borrow.Author.Needs.{needs}
+use Rattle.loading.specs.States.{scriptOf, stateOf, opening}
+use Rattle.scriptrun.proofs.Bytes.{ready-as, come-first, prints-last}
 use Rattle.scriptrun.proofs.run.Statement.{statement}
 use Rattle.scriptrun.proofs.run.Tie as tie
 
@@ -7,25 +9,23 @@ opening-requires : tie.Need-opening-requires
 opening-requires c κs = search needs
 
 read-all-requires : tie.Need-read-all-requires
-read-all-requires c κs = let p = c .before .before .before .before .before .before .before .before .before .pre in (rw (c .before .before .before .before .opening .ensures) (p .0), omega arith, omega arith, p .1)
+read-all-requires c κs = let o = c .before .before .before .before .opening in let a = c .before .before .before .before .before .before .before .before .before .args in let p = c .before .before .before .before .before .before .before .before .before .pre in ((ready-as (scriptOf opening) (o .result) (a .text .now) (a .marks .now) (o .ensures) (p .0), omega arith, p .2, omega (arith, p .3)), come-first (o .result) (a .text .now) (a .marks .now) (o .ensures) (p .1))
 
-end-input-requires : tie.Need-end-input-requires
-end-input-requires c κs = search needs
+close-requires : tie.Need-close-requires
+close-requires c κs = (c .before .before .before .before .before .before .before .before .before .before .before .before .read-all .ensures .0 .0, omega (arith, c .before .before .before .before .before .out .given, c .before .before .before .before .before .before .before .before .before .before .before .before .before .before .before .before .before .before .before .before .before .before .pre .3))
 
-sub-write-all : tie.Need-sub-write-all
-sub-write-all c = search needs
+sub-print : tie.Need-sub-print
+sub-print c = search needs
 
-part-write-all-start : tie.Need-part-write-all-start
-part-write-all-start c = search needs
+part-print-start : tie.Need-part-print-start
+part-print-start c = search needs
 
-part-write-all-end : tie.Need-part-write-all-end
-part-write-all-end c = search needs
+part-print-end : tie.Need-part-print-end
+part-print-end c = omega (arith, c .before .before .before .close .ensures .2, c .before .before .out2 .given, c .before .before .before .before .before .before .before .before .before .out .given, c .before .before .before .before .before .before .before .before .before .before .before .before .before .before .before .before .before .before .before .before .before .before .before .before .before .before .pre .3)
 
-write-all-requires : tie.Need-write-all-requires
-write-all-requires c κs = search needs
-
-print-ending-requires : tie.Need-print-ending-requires
-print-ending-requires c κs = (c .before .before .before .before .before .before .before .before .before .before .before .before .before .end-input .ensures .0, omega (arith, c .before .before .before .before .before .before .before .before .out2 .given, c .before .before .before .before .before .before .before .before .before .before .before .before .before .before .before .before .before .before .out .given, c .before .before .before .before .before .before .before .before .before .before .before .before .before .before .before .before .before .before .before .before .before .before .before .before .before .before .before .before .before .before .before .before .before .before .before .pre .1))
+print-requires : tie.Need-print-requires
+print-requires c κs = let r = c .before .before .before .before .before .before .before .before .before .before .before .before .before .before .before .before .before .read-all in let e = c .before .before .before .before .close in
+    prints-last (stateOf (r .result .script) (r .last .1 .1 .0) (r .last .1 .1 .1 .0)) (r .last .1 .0) _ _ (e .result) (r .result .pending) (omega (arith, r .ensures .0 .1, c .before .before .before .before .before .before .before .before .before .before .before .before .before .before .before .before .line .given, c .before .before .before .before .before .before .before .before .before .before .before .before .before .before .before .before .before .before .before .before .before .before .before .before .before .before .before .pre .2)) (e .ensures .0) (e .ensures .1) (r .ensures .1)
 
 same-length : tie.Need-same-length
 same-length c = search needs
@@ -48,12 +48,11 @@ run-spec =
     (tie.spec
     opening-requires
     read-all-requires
-    end-input-requires
-    sub-write-all
-    part-write-all-start
-    part-write-all-end
-    write-all-requires
-    print-ending-requires
+    close-requires
+    sub-print
+    part-print-start
+    part-print-end
+    print-requires
     same-length
     same-length-2
     same-length-3

@@ -10,16 +10,16 @@ use Rattle.script.proofs.emitting.emit.Statement.{statement}
 use Rattle.script.proofs.emitting.emit.Tie as tie
 
 abbrev Inv-loop : tie.InvT-loop
-Inv-loop line out₀ at keep i₀ out i = (i ≤ length line) × (length out ≡ length out₀) × (out ≡ paste out₀ at line i)
+Inv-loop part out₀ at keep i₀ out i = (i ≤ length part) × (length out ≡ length out₀) × (out ≡ paste out₀ at part i)
 
 abbrev μ-loop : tie.MeasureT-loop
-μ-loop line out₀ at keep i₀ out i = length line - i
+μ-loop part out₀ at keep i₀ out i = length part - i
 
 returns : tie.Need-returns Inv-loop μ-loop
 returns c = rw (not-true (c .before .args .keep) (c .if1 .taken))
 
 loop-holds : tie.Need-loop-holds Inv-loop μ-loop
-loop-holds c = (omega arith, refl, paste-zero _ (c .before .args .at) (c .before .args .line .now))
+loop-holds c = (omega arith, refl, paste-zero _ (c .before .args .at) (c .before .args .part .now))
 
 shared-slice-read-out : tie.Need-shared-slice-read-out Inv-loop μ-loop
 shared-slice-read-out c = search needs
@@ -45,7 +45,7 @@ same-length c = search needs
 
 returns-2 : tie.Need-returns-2 Inv-loop μ-loop
 returns-2 c = let a = c .before .before .before .args in let l = c .before .loop in
-    let z : l .i ≡ length (a .line .now) = omega arith in rw (not-false (a .keep) (c .before .before .if1 .left), l .inv .2, z)
+    let z : l .i ≡ length (a .part .now) = omega arith in rw (not-false (a .keep) (c .before .before .if1 .left), l .inv .2, z)
 
 pub emit-spec : {M : Type 1} → statement M
 emit-spec =
