@@ -5,10 +5,11 @@
  * length is 0; as many elements as the length says may be read there, and where the pointer is not const, written; and no slice that
  * may be written overlaps another slice of the same call. No function keeps a pointer, allocates, or calls anything.
  *
- * Every answer has a `refusal`: 0, or the number of the first row of this table that holds. A refusal changes nothing that was lent.
+ * Every answer but those of the winchbarn_sel_ functions has a `refusal`: 0, or the number of the first row of this table that holds. A
+ * refusal changes nothing that was lent.
  *
- *    1  a used length over its buffer or 16,384; a value in the text that is not admitted; from winchbarn_encode and
- *       winchbarn_write_edit: a value that is no Unicode scalar
+ *    1  a used length over its buffer or 16,384; a value in the text that is not admitted; from winchbarn_encode,
+ *       winchbarn_write_edit and winchbarn_write_text: a value that is no Unicode scalar
  *    2  a number over 1,000,000
  *    3  over its limit: a list or the rows or joins of an edit (256), a payload (16,384), selections (4,096 numbers)
  *    4  a payload with a value that is not admitted; a line break in a chunk; chunk lengths that do not sum to the payload;
@@ -106,6 +107,23 @@ typedef struct {
     size_t second;
 } winchbarn_applied;
 
+/* The view with its cursor set. A refusal has the view as it was given. */
+typedef struct {
+    uint32_t refusal;
+    winchbarn_view view;
+} winchbarn_viewed;
+
+/* An edit that a line is: its numbers, and how many elements of its payload and lists were written to the front of the slices lent for
+ * them. A refusal has zeros for the rest. */
+typedef struct {
+    uint32_t refusal;
+    size_t offset;
+    winchbarn_edit edit;
+    size_t payload;
+    size_t first;
+    size_t second;
+} winchbarn_frame;
+
 /* A position, where there is one; zeros where there is none. */
 typedef struct {
     uint32_t refusal;
@@ -128,6 +146,13 @@ typedef struct {
     uint32_t lo;
     uint32_t hi;
 } winchbarn_span;
+
+/* The first and the last row of a selection. A refusal has zeros. */
+typedef struct {
+    uint32_t refusal;
+    uint32_t top;
+    uint32_t bottom;
+} winchbarn_rows;
 
 typedef struct {
     uint32_t refusal;
@@ -152,16 +177,46 @@ winchbarn_applied winchbarn_apply_frame(uint32_t *text, size_t text_len, winchba
                                         uint32_t *out_payload, size_t out_payload_len, uint32_t *out_first, size_t out_first_len,
                                         uint32_t *out_second, size_t out_second_len);
 
+/* As winchbarn_apply_edit, with the view lent: it is updated where it stands to the answer's, and kept where the edit is refused. It is no
+ * null pointer either, and overlaps no slice. */
+winchbarn_applied winchbarn_apply_edit_in(uint32_t *text, size_t text_len, winchbarn_view *view, winchbarn_edit edit,
+                                          const uint32_t *payload, size_t payload_len, const uint32_t *first, size_t first_len,
+                                          const uint32_t *second, size_t second_len, uint32_t *out_payload, size_t out_payload_len,
+                                          uint32_t *out_first, size_t out_first_len, uint32_t *out_second, size_t out_second_len);
+
 /* Writes an edit as a script's line to the front of `out`, without a line feed; the rest of `out` is kept. Refuses by 10 where the edit
  * has no frame, by 1, and by 8, also where the line would have more than 36,864 digits. */
 winchbarn_count winchbarn_write_edit(winchbarn_edit edit, const uint32_t *payload, size_t payload_len, const uint32_t *first,
                                      size_t first_len, const uint32_t *second, size_t second_len, uint8_t *out, size_t out_len);
+
+/* A text's line, the same way. Refuses by 1 where a value is no scalar, and by 8. */
+winchbarn_count winchbarn_write_text(const uint32_t *text, size_t text_len, uint8_t *out, size_t out_len);
+
+/* A mark's line, the same way. Refuses by 8. */
+winchbarn_count winchbarn_write_mark(winchbarn_sel mark, uint8_t *out, size_t out_len);
+
+/* The edit that a script's line is, without its line feed; its payload and lists go to the front of the slices, the rest of which is kept. 18,432
+ * characters and 4,608 and 3,687 items are always enough. Refuses by 10 where the line is no edit frame, by 5 with the offset in the
+ * frame's bytes, and by 8 where a slice is too short. */
+winchbarn_frame winchbarn_read_edit(const uint8_t *line, size_t line_len, uint32_t *out_payload, size_t out_payload_len,
+                                    uint32_t *out_first, size_t out_first_len, uint32_t *out_second, size_t out_second_len);
+
+/* The text that a line is, to the front of `out`; the rest of `out` is kept. Refuses by 10 where the line is no text frame, then 5, 8, as
+ * winchbarn_read_edit. */
+winchbarn_count winchbarn_read_text(const uint8_t *line, size_t line_len, uint32_t *out, size_t out_len);
+
+/* The mark that a line is, found unless it is refused. Nothing lent is written. Refuses by 10 where the line is no mark frame. */
+winchbarn_sel_place winchbarn_read_mark(const uint8_t *line, size_t line_len);
 
 /* Whether the edit, if it is accepted, is taken back exactly by its inverse. Nothing lent is written. Refuses by 10 where the kind is
  * none, then 1, 2, 3, 4. */
 winchbarn_said winchbarn_undoable(const uint32_t *text, size_t text_len, winchbarn_view view, winchbarn_edit edit,
                                   const uint32_t *payload, size_t payload_len, const uint32_t *first, size_t first_len,
                                   const uint32_t *second, size_t second_len);
+
+/* The view with its cursor at the position, brought into the text as winchbarn_clamp_position has it; the used length and the counter are
+ * as they were. Nothing lent is written. Refuses by 1. */
+winchbarn_viewed winchbarn_set_cursor(const uint32_t *text, size_t text_len, winchbarn_view view, winchbarn_position pos);
 
 /* The position brought into the text: its row down to the last one, then its column to that row's length. Always found. Nothing lent is
  * written. Refuses by 1. */
@@ -185,6 +240,31 @@ winchbarn_sel_place winchbarn_shift_sel(const uint32_t *text, size_t text_len, w
 /* Selections as four numbers each (anchor row and column, head row and column), sorted by start and merged where they share even one
  * position, to the front of `out`; the rest of `out` is kept. The count is one of selections. Refuses by 3, 4, 9. */
 winchbarn_count winchbarn_merge_overlapping(const uint32_t *sels, size_t sels_len, uint32_t *out, size_t out_len);
+
+/* Both ends at the position. Another selection is made by naming its ends. */
+winchbarn_sel winchbarn_sel_caret(winchbarn_position pos);
+
+/* Whether both ends are at one position. */
+bool winchbarn_sel_is_caret(winchbarn_sel sel);
+
+/* The earlier end, and the later one: by row, then column. */
+winchbarn_position winchbarn_sel_start(winchbarn_sel sel);
+winchbarn_position winchbarn_sel_end(winchbarn_sel sel);
+
+/* Whether the two share even one position. */
+bool winchbarn_sel_overlaps(winchbarn_sel sel, winchbarn_sel other);
+
+/* The head and the anchor of a selection of a kind as in winchbarn_row_span; those of whole rows are at column 0. Always found. Refuse by
+ * 10 where the kind is none. */
+winchbarn_place winchbarn_selection_head(uint32_t kind, winchbarn_sel sel);
+winchbarn_place winchbarn_selection_anchor(uint32_t kind, winchbarn_sel sel);
+
+/* The selection with its head moved to the position; the columns of whole rows are told as 0. Always found. Refuses by 10 where the kind
+ * is none. */
+winchbarn_sel_place winchbarn_selection_extend_to(uint32_t kind, winchbarn_sel sel, winchbarn_position pos);
+
+/* The first and the last row that it covers. Refuses by 10 where the kind is none. */
+winchbarn_rows winchbarn_selection_row_bounds(uint32_t kind, winchbarn_sel sel);
 
 /* The columns of a row that a selection covers: kind 0 by characters, 1 by whole rows (columns are not read), 2 the rectangle between two
  * corners. Refuses by 10 where the kind is none. */
