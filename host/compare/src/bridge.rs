@@ -229,3 +229,10 @@ pub fn apply(text: &[u32], whole_edit: &Whole) -> Done {
         inverse: whole(&inverse),
     }
 }
+
+/// Where the original puts the cursor of a view of this text.
+pub fn set_cursor(text: &[u32], pos: Position) -> Position {
+    let mut view = original::View::from_str(&string(text));
+    view.set_cursor(place(pos));
+    place_back(view.cursor())
+}

@@ -5,7 +5,7 @@ use std::time::Instant;
 use crate::random::Random;
 use crate::tally::Tally;
 use crate::work::{Extent, Work};
-use crate::{edits, framed, merges, places, runs, scripts, shifts, spans, utf8};
+use crate::{cursors, edits, framed, merges, places, runs, scripts, shifts, spans, utf8};
 
 /// A group; where its cases are random, how many of them a tiny and a quick run have, and of a thousand a long one.
 struct Group {
@@ -42,7 +42,7 @@ const fn random(
     }
 }
 
-const GROUPS: [Group; 23] = [
+const GROUPS: [Group; 25] = [
     exhaustive("small edits", edits::small),
     random("edits", edits::random, 3_000, 400_000, 260),
     random("wrong edits", edits::wrong, 3_000, 300_000, 200),
@@ -65,6 +65,8 @@ const GROUPS: [Group; 23] = [
     random("row spans", spans::random, 3_000, 100_000, 20),
     exhaustive("small clamps and boxes", places::small),
     random("clamps and boxes", places::random, 2_000, 200_000, 30),
+    exhaustive("small cursors", cursors::small),
+    random("cursors", cursors::random, 1_000, 100_000, 10),
     exhaustive("small frames", framed::small),
     random("frames", framed::random, 1_000, 100_000, 50),
     random("damaged frames", framed::damaged, 1_000, 100_000, 50),

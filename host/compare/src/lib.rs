@@ -7,6 +7,7 @@ pub mod bridge;
 pub mod bruises;
 pub mod calls;
 pub mod cases;
+pub mod cursors;
 pub mod damage;
 pub mod edits;
 pub mod forms;

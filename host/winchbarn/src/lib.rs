@@ -292,6 +292,14 @@ pub fn undoable(
     Ok(said.yes)
 }
 
+/// The view with its cursor at the position, brought into the text as [`clamp_position`] has it; length and counter are as
+/// they were. Refuses by 1.
+pub fn set_cursor(text: &[u32], view: View, pos: Position) -> Result<View, Refusal> {
+    let viewed = unsafe { ffi::winchbarn_set_cursor(text.as_ptr(), text.len(), view, pos) };
+    accepted(viewed.refusal, 0)?;
+    Ok(viewed.view)
+}
+
 /// The position brought into the text: its row down to the last one, then its column to that row's length. Refuses by 1.
 pub fn clamp_position(text: &[u32], used: usize, pos: Position) -> Result<Position, Refusal> {
     let place = unsafe { ffi::winchbarn_clamp_position(text.as_ptr(), text.len(), used, pos) };
