@@ -225,6 +225,23 @@ typedef struct {
     size_t second;
 } winchbarn_applied;
 
+/* The view with its cursor set. A refusal has the view as it was given. */
+typedef struct {
+    uint32_t refusal;
+    winchbarn_view view;
+} winchbarn_viewed;
+
+/* An edit that a line is: its numbers, and how many elements of its payload and lists were written to the front of the slices lent for
+ * them. A refusal has zeros for the rest, but for `offset` under 5. */
+typedef struct {
+    uint32_t refusal;
+    size_t offset;
+    winchbarn_edit edit;
+    size_t payload;
+    size_t first;
+    size_t second;
+} winchbarn_frame;
+
 /* A position, where there is one; zeros where there is none. */
 typedef struct {
     uint32_t refusal;
@@ -248,6 +265,13 @@ typedef struct {
     uint32_t hi;
 } winchbarn_span;
 
+/* The first and the last row of a selection. A refusal has zeros. */
+typedef struct {
+    uint32_t refusal;
+    uint32_t top;
+    uint32_t bottom;
+} winchbarn_rows;
+
 typedef struct {
     uint32_t refusal;
     bool yes;
@@ -258,14 +282,23 @@ typedef struct {
 enum {
     WINCHBARN_STACK_RUN_SCRIPT = 212992,
     WINCHBARN_STACK_APPLY_EDIT = 8192,
+    WINCHBARN_STACK_APPLY_EDIT_IN = 8192,
     WINCHBARN_STACK_APPLY_FRAME = 151552,
     WINCHBARN_STACK_WRITE_EDIT = 24576,
+    WINCHBARN_STACK_WRITE_TEXT = 24576,
+    WINCHBARN_STACK_WRITE_MARK = 2048,
+    WINCHBARN_STACK_READ_EDIT = 45056,
+    WINCHBARN_STACK_READ_TEXT = 45056,
+    WINCHBARN_STACK_READ_MARK = 24576,
     WINCHBARN_STACK_UNDOABLE = 4096,
+    WINCHBARN_STACK_SET_CURSOR = 2048,
     WINCHBARN_STACK_CLAMP_POSITION = 2048,
     WINCHBARN_STACK_BOX_FIT = 2048,
     WINCHBARN_STACK_SHIFT_POSITION = 4096,
     WINCHBARN_STACK_SHIFT_SEL = 4096,
     WINCHBARN_STACK_MERGE_OVERLAPPING = 40960,
+    WINCHBARN_STACK_SEL = 2048,       /* each of the winchbarn_sel_ functions */
+    WINCHBARN_STACK_SELECTION = 2048, /* each of the winchbarn_selection_ functions */
     WINCHBARN_STACK_ROW_SPAN = 2048,
     WINCHBARN_STACK_DECODE = 2048,
     WINCHBARN_STACK_ENCODE = 2048
@@ -289,11 +322,37 @@ winchbarn_applied winchbarn_apply_frame(uint32_t *text, size_t text_len, winchba
                                         uint32_t *out_payload, size_t out_payload_len, uint32_t *out_first, size_t out_first_len,
                                         uint32_t *out_second, size_t out_second_len);
 
+/* As winchbarn_apply_edit, with the view lent: it is updated where it stands to the answer's, and kept where the edit is refused. It is no
+ * null pointer either, and overlaps no slice. Refuses as winchbarn_apply_edit. */
+winchbarn_applied winchbarn_apply_edit_in(uint32_t *text, size_t text_len, winchbarn_view *view, winchbarn_edit edit,
+                                          const uint32_t *payload, size_t payload_len, const uint32_t *first, size_t first_len,
+                                          const uint32_t *second, size_t second_len, uint32_t *out_payload, size_t out_payload_len,
+                                          uint32_t *out_first, size_t out_first_len, uint32_t *out_second, size_t out_second_len);
+
 /* Writes an edit as a script's line to the front of `out`, without a line feed; the rest of `out` is kept. No frame have INSERT_CHAR,
  * SPLIT_LINES whose flags are not as many as its columns or neither 0 nor 1, INSERT_BLOCK whose lengths do not sum to its payload, and
  * DELETE_BLOCK_CHUNKS whose pads are not as many as its widths. Refuses by 10 where the edit has no frame, or the kind is none, then 1, 8. */
 winchbarn_count winchbarn_write_edit(winchbarn_edit edit, const uint32_t *payload, size_t payload_len, const uint32_t *first,
                                      size_t first_len, const uint32_t *second, size_t second_len, uint8_t *out, size_t out_len);
+
+/* A text's line, the same way. Refuses by 1, then 8. */
+winchbarn_count winchbarn_write_text(const uint32_t *text, size_t text_len, uint8_t *out, size_t out_len);
+
+/* A mark's line, the same way. Refuses by 8. */
+winchbarn_count winchbarn_write_mark(winchbarn_sel mark, uint8_t *out, size_t out_len);
+
+/* The edit that a script's line is, without its line feed; its payload and lists go to the front of the slices, the rest of which is kept. 18,432
+ * characters and 4,608 and 3,687 items are always enough. Refuses by 10 where the line is no frame of an
+ * edit, then 5, 8. */
+winchbarn_frame winchbarn_read_edit(const uint8_t *line, size_t line_len, uint32_t *out_payload, size_t out_payload_len,
+                                    uint32_t *out_first, size_t out_first_len, uint32_t *out_second, size_t out_second_len);
+
+/* The text that a line is, to the front of `out`; the rest of `out` is kept. Refuses by 10 where the line is no frame of a text,
+ * then 5, 8. */
+winchbarn_count winchbarn_read_text(const uint8_t *line, size_t line_len, uint32_t *out, size_t out_len);
+
+/* The mark that a line is, found unless it is refused. Nothing lent is written. Refuses by 10 where the line is no frame of a mark. */
+winchbarn_sel_place winchbarn_read_mark(const uint8_t *line, size_t line_len);
 
 /* Whether the edit is sure to be taken back exactly, if it is accepted. Yes for insertions, DELETE_LINE, joins and INSERT_BLOCK; for
  * DELETE_CHAR and REPLACE where their earlier end is in the text; for DELETE_BLOCK where no row that it touches is shorter than its left
@@ -302,6 +361,10 @@ winchbarn_count winchbarn_write_edit(winchbarn_edit edit, const uint32_t *payloa
 winchbarn_said winchbarn_undoable(const uint32_t *text, size_t text_len, winchbarn_view view, winchbarn_edit edit,
                                   const uint32_t *payload, size_t payload_len, const uint32_t *first, size_t first_len,
                                   const uint32_t *second, size_t second_len);
+
+/* The view with its cursor at the position, brought into the text as winchbarn_clamp_position has it; the used length and the counter are
+ * as they were. Nothing lent is written. Refuses by 1. */
+winchbarn_viewed winchbarn_set_cursor(const uint32_t *text, size_t text_len, winchbarn_view view, winchbarn_position pos);
 
 /* The position brought into the text: its row down to the last one, then its column to that row's length. It is found unless it is refused.
  * Nothing lent is written. Refuses by 1. */
@@ -327,6 +390,31 @@ winchbarn_sel_place winchbarn_shift_sel(const uint32_t *text, size_t text_len, w
  * position, to the front of `out`; the rest of `out` is kept. One that was merged runs forward, the others keep their ends. The count is
  * one of selections. Refuses by 3, 4, 9. */
 winchbarn_count winchbarn_merge_overlapping(const uint32_t *sels, size_t sels_len, uint32_t *out, size_t out_len);
+
+/* Both ends at the position. Another selection is made by naming its ends. */
+winchbarn_sel winchbarn_sel_caret(winchbarn_position pos);
+
+/* Whether both ends are at one position. */
+bool winchbarn_sel_is_caret(winchbarn_sel sel);
+
+/* The earlier end, and the later one: by row, then column. */
+winchbarn_position winchbarn_sel_start(winchbarn_sel sel);
+winchbarn_position winchbarn_sel_end(winchbarn_sel sel);
+
+/* Whether the two share even one position. */
+bool winchbarn_sel_overlaps(winchbarn_sel sel, winchbarn_sel other);
+
+/* The head and the anchor of a selection; those of WINCHBARN_SELECT_LINE are at column 0. Found unless refused. They refuse by 10 where the
+ * kind is none. */
+winchbarn_place winchbarn_selection_head(uint32_t kind, winchbarn_sel sel);
+winchbarn_place winchbarn_selection_anchor(uint32_t kind, winchbarn_sel sel);
+
+/* The selection with its head moved to the position; the columns of WINCHBARN_SELECT_LINE are told as 0. Found unless refused. Refuses by
+ * 10 where the kind is none. */
+winchbarn_sel_place winchbarn_selection_extend_to(uint32_t kind, winchbarn_sel sel, winchbarn_position pos);
+
+/* The first and the last row that a selection covers. Refuses by 10 where the kind is none. */
+winchbarn_rows winchbarn_selection_row_bounds(uint32_t kind, winchbarn_sel sel);
 
 /* The columns of a row that a selection covers. Refuses by 10 where the kind is none. */
 winchbarn_span winchbarn_row_span(uint32_t kind, winchbarn_sel sel, uint32_t row);

@@ -7,14 +7,30 @@
 enum {
     RUN_SCRIPT,
     APPLY_EDIT,
+    APPLY_EDIT_IN,
     APPLY_FRAME,
     WRITE_EDIT,
+    WRITE_TEXT,
+    WRITE_MARK,
+    READ_EDIT,
+    READ_TEXT,
+    READ_MARK,
     UNDOABLE,
+    SET_CURSOR,
     CLAMP_POSITION,
     BOX_FIT,
     SHIFT_POSITION,
     SHIFT_SEL,
     MERGE_OVERLAPPING,
+    SEL_CARET,
+    SEL_IS_CARET,
+    SEL_START,
+    SEL_END,
+    SEL_OVERLAPS,
+    SELECTION_HEAD,
+    SELECTION_ANCHOR,
+    SELECTION_EXTEND_TO,
+    SELECTION_ROW_BOUNDS,
     ROW_SPAN,
     DECODE,
     ENCODE
@@ -35,13 +51,20 @@ typedef struct {
     winchbarn_edit edit;
     winchbarn_position pos;
     winchbarn_sel sel;
+    winchbarn_sel other;
     slice slices[7];
     union {
+        winchbarn_position position;
+        winchbarn_sel sel;
+        bool yes;
         winchbarn_count count;
         winchbarn_applied applied;
+        winchbarn_viewed viewed;
+        winchbarn_frame frame;
         winchbarn_place place;
         winchbarn_sel_place sel_place;
         winchbarn_span span;
+        winchbarn_rows rows;
         winchbarn_said said;
     } answer;
 } call;

@@ -148,6 +148,27 @@ winchbarn_applied winchbarn_apply_edit(uint32_t *text, size_t text_len, winchbar
     ANSWER(winchbarn_applied, applied);
 }
 
+winchbarn_applied winchbarn_apply_edit_in(uint32_t *text, size_t text_len, winchbarn_view *view, winchbarn_edit edit,
+                                          const uint32_t *payload, size_t payload_len, const uint32_t *first, size_t first_len,
+                                          const uint32_t *second, size_t second_len, uint32_t *out_payload, size_t out_payload_len,
+                                          uint32_t *out_first, size_t out_first_len, uint32_t *out_second, size_t out_second_len) {
+    call *c = begin(APPLY_EDIT_IN);
+    c->view = *view;
+    c->edit = edit;
+    WRITTEN(text);
+    READ(payload);
+    READ(first);
+    READ(second);
+    WRITTEN(out_payload);
+    WRITTEN(out_first);
+    WRITTEN(out_second);
+    make();
+    *view = c->view;
+    winchbarn_applied answer = c->answer.applied;
+    pthread_mutex_unlock(&one_call);
+    return answer;
+}
+
 winchbarn_applied winchbarn_apply_frame(uint32_t *text, size_t text_len, winchbarn_view view, const uint8_t *line, size_t line_len,
                                         uint32_t *out_payload, size_t out_payload_len, uint32_t *out_first, size_t out_first_len,
                                         uint32_t *out_second, size_t out_second_len) {
@@ -172,6 +193,43 @@ winchbarn_count winchbarn_write_edit(winchbarn_edit edit, const uint32_t *payloa
     ANSWER(winchbarn_count, count);
 }
 
+winchbarn_count winchbarn_write_text(const uint32_t *text, size_t text_len, uint8_t *out, size_t out_len) {
+    call *c = begin(WRITE_TEXT);
+    READ(text);
+    WRITTEN(out);
+    ANSWER(winchbarn_count, count);
+}
+
+winchbarn_count winchbarn_write_mark(winchbarn_sel mark, uint8_t *out, size_t out_len) {
+    call *c = begin(WRITE_MARK);
+    c->sel = mark;
+    WRITTEN(out);
+    ANSWER(winchbarn_count, count);
+}
+
+winchbarn_frame winchbarn_read_edit(const uint8_t *line, size_t line_len, uint32_t *out_payload, size_t out_payload_len,
+                                    uint32_t *out_first, size_t out_first_len, uint32_t *out_second, size_t out_second_len) {
+    call *c = begin(READ_EDIT);
+    READ(line);
+    WRITTEN(out_payload);
+    WRITTEN(out_first);
+    WRITTEN(out_second);
+    ANSWER(winchbarn_frame, frame);
+}
+
+winchbarn_count winchbarn_read_text(const uint8_t *line, size_t line_len, uint32_t *out, size_t out_len) {
+    call *c = begin(READ_TEXT);
+    READ(line);
+    WRITTEN(out);
+    ANSWER(winchbarn_count, count);
+}
+
+winchbarn_sel_place winchbarn_read_mark(const uint8_t *line, size_t line_len) {
+    call *c = begin(READ_MARK);
+    READ(line);
+    ANSWER(winchbarn_sel_place, sel_place);
+}
+
 winchbarn_said winchbarn_undoable(const uint32_t *text, size_t text_len, winchbarn_view view, winchbarn_edit edit,
                                   const uint32_t *payload, size_t payload_len, const uint32_t *first, size_t first_len,
                                   const uint32_t *second, size_t second_len) {
@@ -183,6 +241,14 @@ winchbarn_said winchbarn_undoable(const uint32_t *text, size_t text_len, winchba
     READ(first);
     READ(second);
     ANSWER(winchbarn_said, said);
+}
+
+winchbarn_viewed winchbarn_set_cursor(const uint32_t *text, size_t text_len, winchbarn_view view, winchbarn_position pos) {
+    call *c = begin(SET_CURSOR);
+    c->view = view;
+    c->pos = pos;
+    READ(text);
+    ANSWER(winchbarn_viewed, viewed);
 }
 
 winchbarn_place winchbarn_clamp_position(const uint32_t *text, size_t text_len, size_t used, winchbarn_position pos) {
@@ -234,6 +300,66 @@ winchbarn_count winchbarn_merge_overlapping(const uint32_t *sels, size_t sels_le
     READ(sels);
     WRITTEN(out);
     ANSWER(winchbarn_count, count);
+}
+
+winchbarn_sel winchbarn_sel_caret(winchbarn_position pos) {
+    call *c = begin(SEL_CARET);
+    c->pos = pos;
+    ANSWER(winchbarn_sel, sel);
+}
+
+bool winchbarn_sel_is_caret(winchbarn_sel sel) {
+    call *c = begin(SEL_IS_CARET);
+    c->sel = sel;
+    ANSWER(bool, yes);
+}
+
+winchbarn_position winchbarn_sel_start(winchbarn_sel sel) {
+    call *c = begin(SEL_START);
+    c->sel = sel;
+    ANSWER(winchbarn_position, position);
+}
+
+winchbarn_position winchbarn_sel_end(winchbarn_sel sel) {
+    call *c = begin(SEL_END);
+    c->sel = sel;
+    ANSWER(winchbarn_position, position);
+}
+
+bool winchbarn_sel_overlaps(winchbarn_sel sel, winchbarn_sel other) {
+    call *c = begin(SEL_OVERLAPS);
+    c->sel = sel;
+    c->other = other;
+    ANSWER(bool, yes);
+}
+
+winchbarn_place winchbarn_selection_head(uint32_t kind, winchbarn_sel sel) {
+    call *c = begin(SELECTION_HEAD);
+    c->number = kind;
+    c->sel = sel;
+    ANSWER(winchbarn_place, place);
+}
+
+winchbarn_place winchbarn_selection_anchor(uint32_t kind, winchbarn_sel sel) {
+    call *c = begin(SELECTION_ANCHOR);
+    c->number = kind;
+    c->sel = sel;
+    ANSWER(winchbarn_place, place);
+}
+
+winchbarn_sel_place winchbarn_selection_extend_to(uint32_t kind, winchbarn_sel sel, winchbarn_position pos) {
+    call *c = begin(SELECTION_EXTEND_TO);
+    c->number = kind;
+    c->sel = sel;
+    c->pos = pos;
+    ANSWER(winchbarn_sel_place, sel_place);
+}
+
+winchbarn_rows winchbarn_selection_row_bounds(uint32_t kind, winchbarn_sel sel) {
+    call *c = begin(SELECTION_ROW_BOUNDS);
+    c->number = kind;
+    c->sel = sel;
+    ANSWER(winchbarn_rows, rows);
 }
 
 winchbarn_span winchbarn_row_span(uint32_t kind, winchbarn_sel sel, uint32_t row) {

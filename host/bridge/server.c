@@ -21,14 +21,36 @@ static void serve(call *c) {
         c->answer.applied =
             winchbarn_apply_edit(WORDS(0), c->view, c->edit, WORDS(1), WORDS(2), WORDS(3), WORDS(4), WORDS(5), WORDS(6));
         break;
+    case APPLY_EDIT_IN:
+        c->answer.applied =
+            winchbarn_apply_edit_in(WORDS(0), &c->view, c->edit, WORDS(1), WORDS(2), WORDS(3), WORDS(4), WORDS(5), WORDS(6));
+        break;
     case APPLY_FRAME:
         c->answer.applied = winchbarn_apply_frame(WORDS(0), c->view, BYTES(1), WORDS(2), WORDS(3), WORDS(4));
         break;
     case WRITE_EDIT:
         c->answer.count = winchbarn_write_edit(c->edit, WORDS(0), WORDS(1), WORDS(2), BYTES(3));
         break;
+    case WRITE_TEXT:
+        c->answer.count = winchbarn_write_text(WORDS(0), BYTES(1));
+        break;
+    case WRITE_MARK:
+        c->answer.count = winchbarn_write_mark(c->sel, BYTES(0));
+        break;
+    case READ_EDIT:
+        c->answer.frame = winchbarn_read_edit(BYTES(0), WORDS(1), WORDS(2), WORDS(3));
+        break;
+    case READ_TEXT:
+        c->answer.count = winchbarn_read_text(BYTES(0), WORDS(1));
+        break;
+    case READ_MARK:
+        c->answer.sel_place = winchbarn_read_mark(BYTES(0));
+        break;
     case UNDOABLE:
         c->answer.said = winchbarn_undoable(WORDS(0), c->view, c->edit, WORDS(1), WORDS(2), WORDS(3));
+        break;
+    case SET_CURSOR:
+        c->answer.viewed = winchbarn_set_cursor(WORDS(0), c->view, c->pos);
         break;
     case CLAMP_POSITION:
         c->answer.place = winchbarn_clamp_position(WORDS(0), c->used, c->pos);
@@ -44,6 +66,33 @@ static void serve(call *c) {
         break;
     case MERGE_OVERLAPPING:
         c->answer.count = winchbarn_merge_overlapping(WORDS(0), WORDS(1));
+        break;
+    case SEL_CARET:
+        c->answer.sel = winchbarn_sel_caret(c->pos);
+        break;
+    case SEL_IS_CARET:
+        c->answer.yes = winchbarn_sel_is_caret(c->sel);
+        break;
+    case SEL_START:
+        c->answer.position = winchbarn_sel_start(c->sel);
+        break;
+    case SEL_END:
+        c->answer.position = winchbarn_sel_end(c->sel);
+        break;
+    case SEL_OVERLAPS:
+        c->answer.yes = winchbarn_sel_overlaps(c->sel, c->other);
+        break;
+    case SELECTION_HEAD:
+        c->answer.place = winchbarn_selection_head(c->number, c->sel);
+        break;
+    case SELECTION_ANCHOR:
+        c->answer.place = winchbarn_selection_anchor(c->number, c->sel);
+        break;
+    case SELECTION_EXTEND_TO:
+        c->answer.sel_place = winchbarn_selection_extend_to(c->number, c->sel, c->pos);
+        break;
+    case SELECTION_ROW_BOUNDS:
+        c->answer.rows = winchbarn_selection_row_bounds(c->number, c->sel);
         break;
     case ROW_SPAN:
         c->answer.span = winchbarn_row_span(c->number, c->sel, c->row);

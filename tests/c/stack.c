@@ -123,6 +123,19 @@ static bool apply_edit(void) {
     return true;
 }
 
+static bool apply_edit_in(void) {
+    for (size_t i = 0; i < LENGTH(edits); i++) {
+        const whole *w = &edits[i];
+        winchbarn_view view = open_text(12000);
+        if (winchbarn_apply_edit_in(text, LENGTH(text), &view, w->edit, payload, w->payload, first_of(w), w->first, ones, w->second,
+                                    out_payload, LENGTH(out_payload), out_first, LENGTH(out_first), out_second, LENGTH(out_second))
+                .refusal != 0) {
+            return false;
+        }
+    }
+    return true;
+}
+
 static bool apply_frame(void) {
     for (size_t i = 0; i < LENGTH(edits); i++) {
         winchbarn_view view = open_text(12000);
@@ -149,6 +162,39 @@ static bool write_edit(void) {
     return true;
 }
 
+static bool write_text(void) {
+    return winchbarn_write_text(payload, 4000, printed, sizeof printed).refusal == 0;
+}
+
+static const winchbarn_sel sel = {{15, 5}, {12, 1}};
+
+static bool write_mark(void) {
+    return winchbarn_write_mark(sel, printed, sizeof printed).refusal == 0;
+}
+
+static bool read_edit(void) {
+    for (size_t i = 0; i < LENGTH(edits); i++) {
+        uint32_t refusal = winchbarn_read_edit(lines[i], line_lens[i], out_payload, LENGTH(out_payload), out_first, LENGTH(out_first),
+                                               out_second, LENGTH(out_second))
+                               .refusal;
+        if (refusal != (edits[i].edit.kind == WINCHBARN_INSERT_CHAR ? WINCHBARN_BAD_FRAME : 0)) {
+            return false;
+        }
+    }
+    return true;
+}
+
+/* The script begins with a text, which is longer than what is read into small arrays, and a mark. */
+static bool read_text(void) {
+    static const char *const short_line = "0161";
+    return winchbarn_read_text(script, 2002, out_payload, LENGTH(out_payload)).count == 1000 &&
+           winchbarn_read_text((const uint8_t *)short_line, 4, out_payload, LENGTH(out_payload)).count == 1;
+}
+
+static bool read_mark(void) {
+    return winchbarn_read_mark(script + 2003, 34).found && winchbarn_read_mark(script, 2002).refusal == WINCHBARN_BAD_FRAME;
+}
+
 static bool undoable(void) {
     winchbarn_view view = open_text(12000);
     for (size_t i = 0; i < LENGTH(edits); i++) {
@@ -159,6 +205,11 @@ static bool undoable(void) {
         }
     }
     return true;
+}
+
+static bool set_cursor(void) {
+    winchbarn_position pos = {5000, 5000};
+    return winchbarn_set_cursor(text, LENGTH(text), open_text(12000), pos).refusal == 0;
 }
 
 static bool clamp_position(void) {
@@ -188,7 +239,6 @@ static bool shift_position(void) {
 
 static bool shift_sel(void) {
     winchbarn_view view = open_text(12000);
-    winchbarn_sel sel = {{15, 5}, {12, 1}};
     for (size_t i = 0; i < LENGTH(edits); i++) {
         const whole *w = &edits[i];
         if (winchbarn_shift_sel(text, LENGTH(text), view, w->edit, payload, w->payload, first_of(w), w->first, ones, w->second, sel)
@@ -203,8 +253,22 @@ static bool merge_overlapping(void) {
     return winchbarn_merge_overlapping(sels, LENGTH(sels), merged, LENGTH(merged)).refusal == 0;
 }
 
+static bool sel_functions(void) {
+    winchbarn_sel caret = winchbarn_sel_caret(winchbarn_sel_start(sel));
+    return winchbarn_sel_is_caret(caret) && !winchbarn_sel_is_caret(sel) && winchbarn_sel_overlaps(sel, caret) &&
+           winchbarn_sel_end(sel).row == 15;
+}
+
+static bool selection_functions(void) {
+    bool found = true;
+    for (uint32_t kind = WINCHBARN_SELECT_CHAR; kind <= WINCHBARN_SELECT_BLOCK; kind++) {
+        found = found && winchbarn_selection_head(kind, sel).found && winchbarn_selection_anchor(kind, sel).found &&
+                winchbarn_selection_extend_to(kind, sel, sel.head).found && winchbarn_selection_row_bounds(kind, sel).bottom == 15;
+    }
+    return found;
+}
+
 static bool row_span(void) {
-    winchbarn_sel sel = {{15, 5}, {12, 1}};
     bool covered = true;
     for (uint32_t kind = WINCHBARN_SELECT_CHAR; kind <= WINCHBARN_SELECT_BLOCK; kind++) {
         covered = covered && winchbarn_row_span(kind, sel, 13).covered;
@@ -232,14 +296,23 @@ static bool known(void) {
 static const check checks[] = {
     {"run_script", WINCHBARN_STACK_RUN_SCRIPT, run_script, false},
     {"apply_edit", WINCHBARN_STACK_APPLY_EDIT, apply_edit, false},
+    {"apply_edit_in", WINCHBARN_STACK_APPLY_EDIT_IN, apply_edit_in, false},
     {"apply_frame", WINCHBARN_STACK_APPLY_FRAME, apply_frame, false},
     {"write_edit", WINCHBARN_STACK_WRITE_EDIT, write_edit, false},
+    {"write_text", WINCHBARN_STACK_WRITE_TEXT, write_text, false},
+    {"write_mark", WINCHBARN_STACK_WRITE_MARK, write_mark, false},
+    {"read_edit", WINCHBARN_STACK_READ_EDIT, read_edit, false},
+    {"read_text", WINCHBARN_STACK_READ_TEXT, read_text, false},
+    {"read_mark", WINCHBARN_STACK_READ_MARK, read_mark, false},
     {"undoable", WINCHBARN_STACK_UNDOABLE, undoable, false},
+    {"set_cursor", WINCHBARN_STACK_SET_CURSOR, set_cursor, false},
     {"clamp_position", WINCHBARN_STACK_CLAMP_POSITION, clamp_position, false},
     {"box_fit", WINCHBARN_STACK_BOX_FIT, box_fit, false},
     {"shift_position", WINCHBARN_STACK_SHIFT_POSITION, shift_position, false},
     {"shift_sel", WINCHBARN_STACK_SHIFT_SEL, shift_sel, false},
     {"merge_overlapping", WINCHBARN_STACK_MERGE_OVERLAPPING, merge_overlapping, false},
+    {"sel_..", WINCHBARN_STACK_SEL, sel_functions, false},
+    {"selection_..", WINCHBARN_STACK_SELECTION, selection_functions, false},
     {"row_span", WINCHBARN_STACK_ROW_SPAN, row_span, false},
     {"decode", WINCHBARN_STACK_DECODE, decode, false},
     {"encode", WINCHBARN_STACK_ENCODE, encode, false},

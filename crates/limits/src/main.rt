@@ -1,10 +1,10 @@
-// Tries `apply_edit` at its limits: reads trials from standard input, and prints what came of each. The forms of a line, with
-// all numbers hexadecimal and in upper case:
+// Tries `apply_edit_in`, and with it `apply_edit`, and `set_cursor` at their limits: reads trials from standard input, and prints what came of each. The
+// forms of a line, with all numbers hexadecimal and in upper case:
 //     # COMMENT   passed over, as an empty line is
 //     : LABEL     names the trial that follows
 //     NUMBERS     a trial, as up to 22 numbers, of which the missing ones are 0:
 //         0       the kind: 0 InsertChar, 1 InsertStr, 2 DeleteRange Char, 3 Line, 4 Block, 5 JoinLines without and
-//                 6 with a space, 7 SplitLines, 8 Replace, 9 InsertBlock, A DeleteBlockChunks
+//                 6 with a space, 7 SplitLines, 8 Replace, 9 InsertBlock, A DeleteBlockChunks; B sets the cursor and reads 1-6, 20, 21 alone
 //         1-4     the length of the text's buffer, its used length, the character that fills the whole buffer, and the
 //                 period: each period-th place of the buffer is LF, none if it is 0
 //         5-8     row, column, second row or a join's count, second column
@@ -12,9 +12,10 @@
 //         11-16   the first list's length, its items' value and its last item's; then the second list's
 //         17-19   the lengths of the slices for the inverse's payload, first and second list
 //         20-21   the change counter's high and low 32 bits
-// Printed are the refusal's number and whether anything changed; or the view, the inverse's kind and how much was recorded,
+// Printed are the refusal's number and whether anything changed; or the view that was lent, the inverse's kind and how much was recorded,
 // in decimal, then in hexadecimal what the text and the record hold where they are short, and last, in decimal, the
 // inverse's own numbers and a checksum of all that was lent to be written.
+mod lent;
 mod show;
 mod trial;
 
@@ -24,6 +25,7 @@ use lines::is_passed_over;
 use lines::part_at;
 use lines::read_numbers;
 use trial::NUMBERS;
+use trial::try_cursor;
 use trial::try_edit;
 
 fn is_label(line: &[u8]) -> bool {
@@ -49,6 +51,8 @@ fn try_line(label: &[u8], line: &[u8]) {
     let read = read_numbers(line, &mut numbers);
     if read.well_formed & (numbers[0] <= 10) {
         try_edit(numbers);
+    } else if read.well_formed & (numbers[0] == 11) {
+        try_cursor(numbers);
     } else {
         io::write_all(STDOUT_FILENO, b"malformed");
     }

@@ -8,6 +8,7 @@ use edit::Refusal;
 use edit::View;
 use libc::STDOUT_FILENO;
 use text::Position;
+use view::CursorSet;
 ghost use Prim.Native.Nat.{_<_};
 
 // The most items that are printed.
@@ -72,6 +73,18 @@ pub(crate) fn print_refused(refusal: Refusal, same: bool) {
         io::write_all(STDOUT_FILENO, b", nothing changed");
     } else {
         io::write_all(STDOUT_FILENO, b", changed");
+    }
+}
+
+pub(crate) fn print_cursor(set: CursorSet) {
+    match set {
+        CursorSet::At(view) => {
+            io::write_all(STDOUT_FILENO, b"set");
+            print_view(view);
+        }
+        CursorSet::BadText => {
+            io::write_all(STDOUT_FILENO, b"refused 1");
+        }
     }
 }
 
@@ -140,7 +153,7 @@ fn print_numbers(edit: Edit) {
 }
 
 fn print_view(view: View) {
-    io::write_all(STDOUT_FILENO, b"done: used");
+    io::write_all(STDOUT_FILENO, b": used");
     print_number(view.used as u64);
     io::write_all(STDOUT_FILENO, b", cursor");
     let cursor = view.cursor;
@@ -162,7 +175,9 @@ fn is_short(payload: usize, first: usize, second: usize) -> bool {
     payload + first + second <= SHORT
 }
 
+// `view` is the one that was lent.
 pub(crate) fn print_done(
+    view: View,
     applied: Applied,
     text: &[u32; ROOM],
     payload: &[u32; ROOM],
@@ -170,8 +185,8 @@ pub(crate) fn print_done(
     second: &[u32; ITEMS],
     checksum: u64,
 ) {
-    let view = applied.view;
     let inverse = applied.inverse;
+    io::write_all(STDOUT_FILENO, b"done");
     print_view(view);
     io::write_all(STDOUT_FILENO, b", inverse");
     print_number(kind_number(inverse));

@@ -1,7 +1,8 @@
-// One call of `apply_edit` on arrays that a trial's numbers fill.
+// One call of `apply_edit_in` or `set_cursor` on arrays that a trial's numbers fill.
+use crate::lent::apply_lent;
+use crate::show::print_cursor;
 use crate::show::print_done;
 use crate::show::print_refused;
-use apply::apply_edit;
 use edit::Answer;
 use edit::Edit;
 use edit::View;
@@ -9,6 +10,7 @@ use lines::size;
 use text::LF;
 use trials::edit_of;
 use trials::position;
+use view::set_cursor;
 ghost use Prim.Native.Nat.{_≤_, _<_};
 ghost use mathlib.Core.Path.{_≡_};
 ghost use lib.ListN.{length};
@@ -97,6 +99,15 @@ fn view_of(n: [u32; NUMBERS]) -> View {
     }
 }
 
+fn same_view(a: View, b: View) -> bool {
+    let at = a.cursor;
+    let other = b.cursor;
+    (a.used == b.used)
+        & (at.row.0 == other.row.0)
+        & (at.col.0 == other.col.0)
+        & (a.changes == b.changes)
+}
+
 // The arrays are made in functions of their own: where a proof sees one being made, it has each of its elements.
 fn blank_room() -> [u32; ROOM]
     ensures { λ r. ⌜ 16400 ≡ length r ⌝ }
@@ -139,9 +150,10 @@ fn call(n: [u32; NUMBERS], payload: &[u32], first: &[u32], second: &[u32]) {
     let second_end = upto(n[19], ITEMS);
     fill(&mut text, text_end, n[3], size(n[4]), LF);
     let before = checksum_of(&text, &outpayload, &outfirst, &outsecond);
-    let answer = apply_edit(
+    let given = view_of(n);
+    let stood = apply_lent(
         &mut text[0..text_end],
-        view_of(n),
+        given,
         edit_in(n),
         payload,
         first,
@@ -151,9 +163,14 @@ fn call(n: [u32; NUMBERS], payload: &[u32], first: &[u32], second: &[u32]) {
         &mut outsecond[0..second_end],
     );
     let after = checksum_of(&text, &outpayload, &outfirst, &outsecond);
+    let answer = stood.answer;
+    let view = stood.view;
     match answer {
-        Answer::Refused(refusal) => print_refused(refusal, before == after),
+        Answer::Refused(refusal) => {
+            print_refused(refusal, (before == after) & same_view(given, view))
+        }
         Answer::Done(applied) => print_done(
+            view,
             applied,
             &text,
             &outpayload,
@@ -162,4 +179,11 @@ fn call(n: [u32; NUMBERS], payload: &[u32], first: &[u32], second: &[u32]) {
             after,
         ),
     }
+}
+
+pub(crate) fn try_cursor(n: [u32; NUMBERS]) {
+    let mut text = blank_room();
+    let text_end = upto(n[1], ROOM);
+    fill(&mut text, text_end, n[3], size(n[4]), LF);
+    print_cursor(set_cursor(&text[0..text_end], view_of(n), position(n[5], n[6])));
 }

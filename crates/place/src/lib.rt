@@ -72,7 +72,7 @@ fn head_in(line: &[u8], bytes: &mut [u8]) -> Head
 }
 
 // The kind of a line.
-fn line_head(line: &[u8]) -> Head
+pub fn line_head(line: &[u8]) -> Head
     ensures { λ r. ⌜ r ≡ headOf (lineForm (now (line .entry))) ⌝ }
 {
     if line.len() <= SHORT_LINE {

@@ -1,19 +1,24 @@
 // Answers as records.
+use crate::Bounds;
 use crate::Change;
 use crate::Count;
 use crate::Cover;
+use crate::EditLine;
 use crate::Found;
-use crate::Numbers;
 use crate::SelFound;
+use crate::edits::no_edit;
 use crate::edits::origin;
 use crate::edits::told_edit;
 use edit::Answer;
 use edit::Applied;
+use edit::Edit;
 use edit::Refusal;
 use edit::View;
 use fit::BoxFit;
+use select::RowBounds;
 use select::RowSpan;
 use select::Sel;
+use select::Selection;
 use text::Clamped;
 use text::Position;
 use utf8::Decoded;
@@ -25,7 +30,7 @@ ghost use Rattle.text.specs.Answers.{paperClamped};
 ghost use Rattle.fit.specs.Calls.{paperBoxFit};
 ghost use Rattle.edit.specs.Call.{numberOf, offsetOf, paperAnswer};
 ghost use Rattle.select.specs.Answers.{paperRowSpan};
-ghost use Rattle.plain.specs.Told.{toldCount, toldDone, toldApplied, foundAt, notFound, toldClamped, toldFit, foundSel, noSel, noCover, toldSpan};
+ghost use Rattle.plain.specs.Told.{toldCount, toldDone, toldApplied, foundAt, notFound, toldClamped, toldFit, foundSel, noSel, noCover, toldSpan, noBounds, toldBounds, endsOf, toldLine, noLine};
 
 fn offset_of(why: Refusal) -> usize
     ensures { λ r. ⌜ r ≡ offsetOf why ⌝ }
@@ -119,6 +124,16 @@ pub fn no_cover(refusal: u32) -> Cover
     }
 }
 
+pub fn no_bounds(refusal: u32) -> Bounds
+    ensures { λ r. ⌜ r ≡ noBounds refusal ⌝ }
+{
+    Bounds {
+        refusal,
+        top: 0,
+        bottom: 0,
+    }
+}
+
 fn changed(applied: Applied) -> Change
     ensures { λ r. ⌜ r ≡ toldDone applied ⌝ }
 {
@@ -138,17 +153,11 @@ fn changed(applied: Applied) -> Change
 pub fn not_changed(view: View, why: Refusal) -> Change
     ensures { λ r. ⌜ r ≡ toldApplied view (refused (numberOf why) (offsetOf why)) ⌝ }
 {
-    let inverse = Numbers {
-        kind: 0,
-        start: origin(),
-        end: origin(),
-        count: 0,
-    };
     Change {
         refusal: why.number(),
         offset: offset_of(why),
         view,
-        inverse,
+        inverse: no_edit(),
         payload: 0,
         first: 0,
         second: 0,
@@ -223,5 +232,54 @@ pub fn told_span(span: RowSpan) -> Cover
             lo: lo.0,
             hi: 0,
         },
+    }
+}
+
+pub fn told_bounds(bounds: RowBounds) -> Bounds
+    ensures { λ r. ⌜ r ≡ toldBounds bounds ⌝ }
+{
+    let top = bounds.top;
+    let bottom = bounds.bottom;
+    Bounds {
+        refusal: 0,
+        top: top.0,
+        bottom: bottom.0,
+    }
+}
+
+// The two ends of a selection of any kind.
+pub fn told_ends(selection: Selection) -> Sel
+    ensures { λ r. ⌜ r ≡ endsOf selection ⌝ }
+{
+    Sel {
+        anchor: selection.anchor(),
+        head: selection.head(),
+    }
+}
+
+// What is told of an edit that a line is.
+pub fn line_read(edit: Edit, payload: usize, first: usize, second: usize) -> EditLine
+    ensures { λ r. ⌜ r ≡ toldLine edit payload first second ⌝ }
+{
+    EditLine {
+        refusal: 0,
+        offset: 0,
+        edit: told_edit(edit),
+        payload,
+        first,
+        second,
+    }
+}
+
+pub fn no_line(why: Refusal) -> EditLine
+    ensures { λ r. ⌜ r ≡ noLine (numberOf why) (offsetOf why) ⌝ }
+{
+    EditLine {
+        refusal: why.number(),
+        offset: offset_of(why),
+        edit: no_edit(),
+        payload: 0,
+        first: 0,
+        second: 0,
     }
 }

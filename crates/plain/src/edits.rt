@@ -67,6 +67,13 @@ pub fn origin() -> Position
     }
 }
 
+// Numbers that are all 0.
+pub fn no_edit() -> Numbers
+    ensures { λ r. ⌜ r ≡ atPlace 0 (at 0 0) ⌝ }
+{
+    at_place(0, origin())
+}
+
 fn at_place(kind: u32, place: Position) -> Numbers
     ensures { λ r. ⌜ r ≡ atPlace kind place ⌝ }
 {

@@ -5,15 +5,20 @@ mod edits;
 pub use answers::counted;
 pub use answers::found_at;
 pub use answers::found_sel;
+pub use answers::line_read;
+pub use answers::no_bounds;
 pub use answers::no_cover;
+pub use answers::no_line;
 pub use answers::no_sel;
 pub use answers::not_changed;
 pub use answers::not_counted;
 pub use answers::not_found;
 pub use answers::told_answer;
+pub use answers::told_bounds;
 pub use answers::told_clamped;
 pub use answers::told_decoded;
 pub use answers::told_encoded;
+pub use answers::told_ends;
 pub use answers::told_fit;
 pub use answers::told_span;
 use edit::Edit;
@@ -90,6 +95,32 @@ pub struct Cover {
     pub open: bool,
     pub lo: u32,
     pub hi: u32,
+}
+
+// The first and the last row that are covered.
+#[repr(C)]
+pub struct Bounds {
+    pub refusal: u32,
+    pub top: u32,
+    pub bottom: u32,
+}
+
+// The view after a call that edits nothing.
+#[repr(C)]
+pub struct Viewed {
+    pub refusal: u32,
+    pub view: View,
+}
+
+// The edit that a line is, and how much of its payload and lists was written.
+#[repr(C)]
+pub struct EditLine {
+    pub refusal: u32,
+    pub offset: usize,
+    pub edit: Numbers,
+    pub payload: usize,
+    pub first: usize,
+    pub second: usize,
 }
 
 #[repr(C)]

@@ -1,13 +1,21 @@
 // Answers as records, of the calls whose answers `plain` does not know.
+use asked::EditRead;
+use asked::MarkRead;
+use asked::TextRead;
 use edit::Refusal;
+use edit::View;
 use merge::Merged;
 use plain::Count;
+use plain::EditLine;
 use plain::Found;
 use plain::Said;
 use plain::SelFound;
+use plain::Viewed;
 use plain::counted;
 use plain::found_at;
 use plain::found_sel;
+use plain::line_read;
+use plain::no_line;
 use plain::no_sel;
 use plain::not_counted;
 use plain::not_found;
@@ -15,15 +23,18 @@ use script::Ran;
 use shift::SelShifted;
 use shift::Shifted;
 use view::CanUndo;
+use view::CursorSet;
 use writer::Written;
 ghost use mathlib.Core.Path.{_≡_};
+ghost use Rattle.asked.specs.Calls.{paperText, paperMark, paperEdit};
 ghost use Rattle.merge.specs.Call.{paperMerged};
 ghost use Rattle.shift.specs.Answers.{paperShifted, paperSelShifted};
-ghost use Rattle.view.specs.Answers.{paperUndoable};
+ghost use Rattle.view.specs.Answers.{paperUndoable, paperCursorSet};
 ghost use Rattle.writer.specs.Calls.{paperWritten};
 ghost use Rattle.script.specs.Calls.{paperRan};
-ghost use Rattle.plain.specs.Told.{toldCount, toldYes};
+ghost use Rattle.plain.specs.Told.{toldCount, toldYes, toldView};
 ghost use Rattle.told.specs.Shifts.{toldShifted, toldSelShifted};
+ghost use Rattle.told.specs.Lines.{toldMark, toldRead};
 
 pub fn told_ran(ran: Ran) -> Count
     ensures { λ r. ⌜ r ≡ toldCount (paperRan ran) ⌝ }
@@ -88,5 +99,50 @@ pub fn told_undoable(can: CanUndo) -> Said
             refusal: why.number(),
             yes: false,
         },
+    }
+}
+
+// What is told of the view, whose cursor was to be set.
+pub fn told_cursor(view: View, set: CursorSet) -> Viewed
+    ensures { λ r. ⌜ r ≡ toldView view (paperCursorSet set) ⌝ }
+{
+    match set {
+        CursorSet::At(after) => Viewed {
+            refusal: 0,
+            view: after,
+        },
+        CursorSet::BadText => Viewed { refusal: 1, view },
+    }
+}
+
+pub fn told_text_read(read: TextRead) -> Count
+    ensures { λ r. ⌜ r ≡ toldCount (paperText read) ⌝ }
+{
+    match read {
+        TextRead::Chars(n) => counted(n),
+        TextRead::Refused(why) => not_counted(why),
+    }
+}
+
+pub fn told_mark_read(read: MarkRead) -> SelFound
+    ensures { λ r. ⌜ r ≡ toldMark (paperMark read) ⌝ }
+{
+    match read {
+        MarkRead::Mark(mark) => found_sel(mark),
+        MarkRead::BadFrame => no_sel(10),
+    }
+}
+
+pub fn told_edit_read(read: EditRead) -> EditLine
+    ensures { λ r. ⌜ r ≡ toldRead (paperEdit read) ⌝ }
+{
+    match read {
+        EditRead::Edit {
+            edit,
+            payload,
+            first,
+            second,
+        } => line_read(edit, payload, first, second),
+        EditRead::Refused(why) => no_line(why),
     }
 }

@@ -8,7 +8,7 @@ use Rattle.edit.specs.Refusals.{fewOk, fewRows, payloadOk, recordOk, roomOk, sm
 use Rattle.feed.specs.Scripts.{lineStep, run}
 use Rattle.fit.specs.Calls.{firstOver}
 use Rattle.frame.specs.Format.{chunkBytes, columnBytes, editBytes, editChars, frameBytes, frameChars, hasBytes, hasFrame, widthBytes}
-use Rattle.frame.specs.Forms.{before, blockForm, blockOf, chunksForm, columnsIn, deleteForm, flagged, flagsIn, formBy, insertForm, joinForm, kindForm, lineForm, markForm, padsIn, replaceForm, splitForm, stringsFrom, widthsIn}
+use Rattle.frame.specs.Forms.{before, blockForm, blockOf, chunksForm, columnsIn, deleteForm, flagged, flagsIn, formBy, insertForm, joinForm, kindForm, lineForm, markForm, headOf, padsIn, replaceForm, splitForm, stringsFrom, widthsIn}
 use Rattle.frame.specs.Numbers.{items, numberIn}
 use Rattle.frame.specs.Reads.{ahead, contents, editOf, firstList, readForm, textOf}
 use Rattle.frame.specs.Writes.{lineOf}
@@ -30,6 +30,8 @@ use Rattle.sorting.specs.Sorting.{insert, sorted}
 use Rattle.step.specs.Steps.{answered, carried, ending, ran, step}
 use Rattle.text.specs.Rows.{clamp, endOf, inText, lastRow, lines, offset, onto, rowCount, rowLen, rowStart, unlines}
 use Rattle.text.specs.Text.{admissible, all, renewed, textOk}
+use Rattle.reader.specs.Calls.{charsInto, frameInto, readInto}
+use Rattle.asked.specs.Calls.{textInto, editInto}
 use Rattle.utf8.specs.Calls.{decoded, encoded, stored}
 use Rattle.utf8.specs.Reading.{allScalar, prepend, readFrom, writing}
 use Rattle.utf8.specs.Rfc3629.{begins, number, octets, scalar, taken}
@@ -37,5 +39,5 @@ use Rattle.writer.specs.Calls.{lineInto}
 use Rattle.winchbarn.specs.Examples.{RuledOut}
 
 pub ruled-out : RuledOut
-unfolding flatten afterDeleteBlock afterDeleteBlockChunks afterDeleteChar afterDeleteLines afterInsert afterInsertBlock afterJoin startCols applied firstOf isUndoable leaves rangeUndoable resultOf undoable anyFlag blockInserted charsDeleted chunksDeleted chunksOf cutAll editedBy gap inserted joinCols joinFlags joinRow joined lineFrom lineTo linesDeleted padsOf pieces put putAll rangeDeleted replaced split splitFirst splitRow unspace fewOk fewRows payloadOk recordOk roomOk smallOk smallRange sum wide withinAll withinFirst withinOk firstOver chunkBytes columnBytes editBytes editChars frameBytes frameChars hasBytes hasFrame widthBytes before blockForm blockOf chunksForm columnsIn deleteForm flagged flagsIn formBy insertForm joinForm kindForm lineForm markForm padsIn replaceForm splitForm stringsFrom widthsIn items numberIn ahead contents editOf firstList readForm textOf lineOf frameApplied digitOf hexed isDigit paired unhexed valueOf gapLen framedBy loaded inOrder markLine markLines leaves-merge mergedIn collapse collapsed placed seen item lineStep run blockSpan charSpan lineSpan orderedOk orderedRange positionShifted selShifted afterDelete shifted flat sels insert sorted answered carried ending ran step clamp endOf inText lastRow lines offset onto rowCount rowLen rowStart unlines admissible all renewed textOk decoded encoded stored allScalar prepend readFrom writing begins number octets scalar taken lineInto
-ruled-out = record { run-script = refl; apply-edit = refl; apply-frame = refl; write-edit = refl; undoable = refl; undoable-kind = refl; clamp-position = refl; box-fit = refl; shift-position = refl; shift-sel = refl; merge-overlapping = refl; row-span = refl; decode = refl; encode = refl }
+unfolding flatten afterDeleteBlock afterDeleteBlockChunks afterDeleteChar afterDeleteLines afterInsert afterInsertBlock afterJoin startCols applied firstOf isUndoable leaves rangeUndoable resultOf undoable anyFlag blockInserted charsDeleted chunksDeleted chunksOf cutAll editedBy gap inserted joinCols joinFlags joinRow joined lineFrom lineTo linesDeleted padsOf pieces put putAll rangeDeleted replaced split splitFirst splitRow unspace fewOk fewRows payloadOk recordOk roomOk smallOk smallRange sum wide withinAll withinFirst withinOk firstOver chunkBytes columnBytes editBytes editChars frameBytes frameChars hasBytes hasFrame widthBytes before blockForm blockOf chunksForm columnsIn deleteForm flagged flagsIn formBy insertForm joinForm kindForm lineForm markForm headOf padsIn replaceForm splitForm stringsFrom widthsIn items numberIn ahead contents editOf firstList readForm textOf lineOf frameApplied digitOf hexed isDigit paired unhexed valueOf gapLen framedBy loaded inOrder markLine markLines leaves-merge mergedIn collapse collapsed placed seen item lineStep run blockSpan charSpan lineSpan orderedOk orderedRange positionShifted selShifted afterDelete shifted flat sels insert sorted answered carried ending ran step clamp endOf inText lastRow lines offset onto rowCount rowLen rowStart unlines admissible all renewed textOk decoded encoded stored allScalar prepend readFrom writing begins number octets scalar taken lineInto charsInto frameInto readInto textInto editInto
+ruled-out = record { run-script = refl; apply-edit = refl; apply-frame = refl; apply-edit-in = refl; apply-edit-in-kept = refl; write-edit = refl; write-text = refl; write-mark = refl; read-edit = refl; read-edit-bad = refl; read-text = refl; read-mark = refl; undoable = refl; undoable-kind = refl; set-cursor = refl; clamp-position = refl; box-fit = refl; shift-position = refl; shift-sel = refl; merge-overlapping = refl; sel-caret = refl; sel-is-caret = refl; sel-start = refl; sel-end = refl; sel-overlaps = refl; selection-head = refl; selection-anchor = refl; selection-extend-to = refl; selection-row-bounds = refl; selection-no-kind = refl; row-span = refl; decode = refl; encode = refl }

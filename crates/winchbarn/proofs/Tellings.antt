@@ -1,5 +1,5 @@
 -- From what the core promises to what C is told.
-use mathlib.Core.Path.{_≡_, sym, ap, _∙_}
+use mathlib.Core.Path.{_≡_, sym, ap, ap₂, _∙_}
 use mathlib.Core.Bool.{Bool}
 use mathlib.Core.List.{List, []}
 use mathlib.Core.Option.{Option, none, some}
@@ -14,16 +14,15 @@ use Rattle.edit.specs.Edits.{whole}
 use Rattle.edit.specs.Call as edits
 use Rattle.select.specs.declared.Sel.{Sel}
 use Rattle.select.specs.declared.Selection.{Selection}
-use Rattle.select.specs.Answers.{Columns}
-use Rattle.select.specs.Selections.{rowSpan}
 use Rattle.merge.specs.Call as merges
 use Rattle.shift.specs.Answers.{Followed}
 use Rattle.shift.specs.Call.{positionShifted, selShifted}
 use Rattle.frame.specs.Format.{edit as editFrame}
+use Rattle.reader.specs.Calls.{Read, Filled, filled}
 use Rattle.writer.specs.Calls.{writtenInto}
 use Rattle.plain.specs.declared.Change.{Change}
 use Rattle.plain.specs.declared.Count.{Count}
-use Rattle.plain.specs.declared.Cover.{Cover}
+use Rattle.plain.specs.declared.EditLine.{EditLine}
 use Rattle.plain.specs.declared.Found.{Found}
 use Rattle.plain.specs.declared.MeantEdit.{MeantEdit}
 use Rattle.plain.specs.declared.MeantEdit.the-variants as asEdit
@@ -33,9 +32,10 @@ use Rattle.plain.specs.declared.Numbers.{Numbers}
 use Rattle.plain.specs.declared.Said.{Said}
 use Rattle.plain.specs.declared.SelFound.{SelFound}
 use Rattle.plain.specs.Meanings.{item, meant, selections, paperMeant, paperSelection}
-use Rattle.plain.specs.Told.{toldCount, toldApplied, notFound, noSel, noCover, toldSpan, toldYes}
+use Rattle.plain.specs.Told.{toldCount, toldApplied, notFound, noSel, toldYes}
 use Rattle.told.specs.Shifts.{toldShifted, toldSelShifted}
-use Rattle.winchbarn.specs.Calls.{counted, changed, toldInto, toldMerge, toldCall, ofKind, editCall, lineCall, undoableCall, shiftCall, selCall, spanCall}
+use Rattle.told.specs.Lines.{toldRead}
+use Rattle.winchbarn.specs.Calls.{counted, Changed, changed, ChangedIn, changedIn, framed, toldInto, toldMerge, toldCall, toldFrame, ofKind, editCall, editCallIn, lineCall, undoableCall, shiftCall, selCall}
 
 pub told-into : (r : Count) (a : Paper ℕ) (o : List ℕ) (w : Outcome) → r ≡ toldCount a → outcome a o ≡ w → counted r o ≡ toldInto w
 told-into r a o w e q = ap (λ (c : Count). counted c o) e ∙ ap toldInto q
@@ -46,6 +46,14 @@ told-merge r a o w e q = ap (λ (c : Count). counted c o) e ∙ ap toldMerge q
 pub told-call : (v : View) (r : Change) (a : Paper Applied) (t x f s : List ℕ) (w : edits.Outcome) → r ≡ toldApplied v a → edits.outcome a t x f s ≡ w
     → changed r t x f s ≡ toldCall v w
 told-call v r a t x f s w e q = ap (λ (c : Change). changed c t x f s) e ∙ ap (toldCall v) q
+
+-- the lent view, which the answer's takes the place of
+pub told-in : (v : View) (n : Numbers) (l : edits.Lent) (r : Change) (w : View) (t x f s : List ℕ) → changed r t x f s ≡ editCall v n l → w ≡ r .view
+    → changedIn (changed r t x f s) w ≡ editCallIn v n l
+told-in v n l r w t x f s e k = ap₂ {C = ChangedIn} changedIn e (k ∙ ap (λ (c : Changed). c .answer .view) e)
+
+pub told-frame : (r : EditLine) (a : Paper Read) (x f s : List ℕ) (w : Filled) → r ≡ toldRead a → filled a x f s ≡ w → framed r x f s ≡ toldFrame w
+told-frame r a x f s w e q = ap (λ (c : EditLine). framed c x f s) e ∙ ap toldFrame q
 
 -- what is chosen by a kind
 of-some : {A B : Type 0} (o : Option A) (b : B) (f : A → B) (a : A) → some a ≡ o → f a ≡ ofKind o b f
@@ -104,12 +112,11 @@ module _ (n : Numbers) (m : MeantEdit) (h : paperMeant m ≡ meant n) where
     pub sel-kindless : (b : List ℕ) (v : View) (x f s : List ℕ) (l : Sel) (r : SelFound) → r ≡ noSel 10 → r ≡ selCall b v n x f s l
     sel-kindless b v x f s l r k = k ∙ ap toldSelShifted (of-none (meant n) (refused 10 0) (λ d. selShifted b (v .used) d x f s l) nothing)
 
--- ---- the kind k of a selection meant m
+-- ---- the kind k of a selection meant m: f of the selection, or b
 
-module _ (k : ℕ) (l : Sel) (row : ℕ) (m : MeantSelection) (h : paperSelection m ≡ item (selections l) k) (r : Cover) where
-  pub span-called : (s : Selection) → m ≡ asMeant.Selection s → (a : Columns) → r ≡ toldSpan a → a ≡ rowSpan s row → r ≡ spanCall k l row
-  span-called s q a e w =
-      e ∙ ap toldSpan w ∙ of-some (item (selections l) k) (noCover 10) (λ t. toldSpan (rowSpan t row)) s (ap paperSelection (sym q) ∙ h)
+module _ {A : Type 0} (k : ℕ) (l : Sel) (m : MeantSelection) (h : paperSelection m ≡ item (selections l) k) (r b : A) (f : Selection → A) where
+  pub by-kind : (s : Selection) → m ≡ asMeant.Selection s → r ≡ f s → r ≡ ofKind (item (selections l) k) b f
+  by-kind s q e = e ∙ of-some (item (selections l) k) b f s (ap paperSelection (sym q) ∙ h)
 
-  pub span-kindless : m ≡ asMeant.NoKind → r ≡ noCover 10 → r ≡ spanCall k l row
-  span-kindless q e = e ∙ of-none (item (selections l) k) (noCover 10) (λ t. toldSpan (rowSpan t row)) (ap paperSelection (sym q) ∙ h)
+  pub kindless : m ≡ asMeant.NoKind → r ≡ b → r ≡ ofKind (item (selections l) k) b f
+  kindless q e = e ∙ of-none (item (selections l) k) b f (ap paperSelection (sym q) ∙ h)

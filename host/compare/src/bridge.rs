@@ -219,6 +219,13 @@ fn whole(edit: &original::Edit) -> Whole {
     }
 }
 
+/// Where the original puts the cursor of a view of this text.
+pub fn set_cursor(text: &[u32], pos: Position) -> Position {
+    let mut view = original::View::from_str(&string(text));
+    view.set_cursor(place(pos));
+    place_back(view.cursor())
+}
+
 /// What the original makes of an admitted text by an edit that document 01 does not refuse.
 pub fn apply(text: &[u32], whole_edit: &Whole) -> Done {
     let mut view = original::View::from_str(&string(text));

@@ -42,6 +42,11 @@ impl Room {
         }
     }
 
+    /// Whether each of the slices is long enough.
+    pub fn holds(&self, needed: Self) -> bool {
+        needed.payload <= self.payload && needed.first <= self.first && needed.second <= self.second
+    }
+
     /// The record room that demand 3 speaks of.
     pub fn of_demand_3(buffer: &[u32]) -> Self {
         Self {

@@ -42,6 +42,30 @@ pub fn apply(call: &Call, given: &Given, written: &mut Written) -> Applied {
     )
 }
 
+/// The same on a view that is lent, which is then the answer's.
+fn compare_in_place(call: &Call) -> Verdict {
+    let given = Given::of(&call.whole);
+    let mut written = Written::of(&call.buffer, call.room);
+    let mut view = call.view;
+    let answer = raw::apply_edit_in(
+        written.text.lent_mut(),
+        &mut view,
+        call.whole.edit,
+        given.payload.lent(),
+        given.first.lent(),
+        given.second.lent(),
+        written.payload.lent_mut(),
+        written.first.lent_mut(),
+        written.second.lent_mut(),
+    );
+    given.expect_kept()?;
+    if view != answer.view {
+        return Err(format!("lent {view:?}\nanswered {:?}", answer.view));
+    }
+    let expected = law::applied(call);
+    written.expect(call.view, expected.as_ref().map_err(|it| *it), answer)
+}
+
 pub fn compare_undoable(call: &Call) -> Verdict {
     told::same(&law::undoable(call), told::said, undoable(call)?)
 }
@@ -151,6 +175,20 @@ pub fn wrong(work: &mut Work) {
     for _ in 0..work.cases {
         let call = bruised(&mut work.random);
         compare_trimmed(work, call);
+    }
+}
+
+/// Edits on a view that is lent, of which some are wrong.
+pub fn in_place(work: &mut Work) {
+    for _ in 0..work.cases {
+        let random = &mut work.random;
+        let mut call = match random.one_in(3) {
+            true => bruised(random),
+            false => cases::short_call(random),
+        };
+        let edited = law::edited(&call);
+        cases::trim(random, &mut call, &edited);
+        work.tally.note(&call, compare_in_place(&call));
     }
 }
 

@@ -144,7 +144,7 @@ pub fn small(work: &mut Work) {
 }
 
 /// A call with an edit that often has a frame.
-fn any_call(random: &mut Random) -> Call {
+pub fn any_call(random: &mut Random) -> Call {
     let mut call = match random.one_in(100) {
         true => limits::at_limit(random),
         false => cases::short_call(random),
@@ -200,7 +200,8 @@ pub fn damaged(work: &mut Work) {
     }
 }
 
-fn any_line(random: &mut Random, call: &Call) -> Vec<u8> {
+/// The line of the call's edit, or seldom one of a text or a mark.
+pub fn any_line(random: &mut Random, call: &Call) -> Vec<u8> {
     let text = [0x61, 0x3042];
     match random.below(30) {
         0 => frames::hex(&frames::text_frame(&text)),

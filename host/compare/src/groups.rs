@@ -5,7 +5,9 @@ use std::time::Instant;
 use crate::random::Random;
 use crate::tally::Tally;
 use crate::work::{Extent, Work};
-use crate::{edits, framed, merges, places, runs, scripts, shifts, spans, utf8};
+use crate::{
+    cursors, edits, ends, framed, merges, places, reads, runs, scripts, shifts, spans, utf8,
+};
 
 /// A group; where its cases are random, how many of them a tiny and a quick run have, and of a thousand a long one.
 struct Group {
@@ -42,10 +44,11 @@ const fn random(
     }
 }
 
-const GROUPS: [Group; 23] = [
+const GROUPS: [Group; 30] = [
     exhaustive("small edits", edits::small),
     random("edits", edits::random, 3_000, 400_000, 260),
     random("wrong edits", edits::wrong, 3_000, 300_000, 200),
+    random("edits of lent views", edits::in_place, 1_000, 50_000, 20),
     random("edits at limits", edits::at_limits, 300, 20_000, 30),
     random("edits of long texts", edits::long_texts, 200, 10_000, 20),
     exhaustive("small edits judged for undo", edits::small_undoable),
@@ -63,11 +66,17 @@ const GROUPS: [Group; 23] = [
     random("merges", merges::random, 1_000, 50_000, 30),
     exhaustive("small row spans", spans::small),
     random("row spans", spans::random, 3_000, 100_000, 20),
+    exhaustive("small ends", ends::small),
+    random("ends", ends::random, 3_000, 100_000, 10),
     exhaustive("small clamps and boxes", places::small),
     random("clamps and boxes", places::random, 2_000, 200_000, 30),
+    exhaustive("small cursors", cursors::small),
+    random("cursors", cursors::random, 1_000, 100_000, 10),
     exhaustive("small frames", framed::small),
     random("frames", framed::random, 1_000, 100_000, 50),
     random("damaged frames", framed::damaged, 1_000, 100_000, 50),
+    random("lines read", reads::random, 1_000, 50_000, 10),
+    random("texts and marks written", reads::written, 1_000, 50_000, 10),
     random("scripts", scripts::random, 100, 4_000, 10),
     exhaustive("UTF-8 sequences", utf8::sequences),
     exhaustive("scalars", utf8::scalars),

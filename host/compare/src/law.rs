@@ -7,7 +7,7 @@ use winchbarn::raw::{
 use winchbarn::{Position, Refusal};
 
 use crate::bridge::{self, Done};
-use crate::calls::{Call, Whole, at};
+use crate::calls::{Call, Room, Whole, at};
 
 pub const TEXT_LIMIT: usize = 16_384;
 pub const NUMBER_LIMIT: u32 = 1_000_000;
@@ -165,14 +165,10 @@ fn length_after_block(text: &[u32], whole: &Whole) -> usize {
 
 /// Refusals 8 and 9.
 fn want_of_room(call: &Call, done: &Done) -> Answer<()> {
-    let inverse = &done.inverse;
     if done.text.len() > call.buffer.len().min(TEXT_LIMIT) {
         return Err(refusal(8));
     }
-    if inverse.payload.len() > call.room.payload
-        || inverse.first.len() > call.room.first
-        || inverse.second.len() > call.room.second
-    {
+    if !call.room.holds(Room::of(&done.inverse)) {
         return Err(refusal(9));
     }
     Ok(())

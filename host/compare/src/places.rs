@@ -80,7 +80,8 @@ pub fn small(work: &mut Work) {
     }
 }
 
-fn any_place(random: &mut Random) -> Place {
+/// A text of any length up to the limits and a little past, used up to any place of it or past its end, and a position.
+pub fn any_place(random: &mut Random) -> Place {
     let length = match random.below(200) {
         0 => random.between(16_382, 16_386),
         1 => random.below(12_000),

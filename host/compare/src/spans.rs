@@ -20,22 +20,23 @@ pub struct Row {
     pub row: u32,
 }
 
-impl Row {
-    fn selection(&self) -> Answer<original::Selection> {
-        let (anchor, head) = (place(self.sel.anchor), place(self.sel.head));
-        match self.kind {
-            0 => Ok(original::Selection::Char { anchor, head }),
-            1 => Ok(original::Selection::Line {
-                anchor_row: anchor.row,
-                head_row: head.row,
-            }),
-            2 => Ok(original::Selection::Block { anchor, head }),
-            _ => Err(refusal(10)),
-        }
+/// The original's selection of this kind; refusal 10 where it is none.
+pub fn selection(kind: u32, sel: Sel) -> Answer<original::Selection> {
+    let (anchor, head) = (place(sel.anchor), place(sel.head));
+    match kind {
+        0 => Ok(original::Selection::Char { anchor, head }),
+        1 => Ok(original::Selection::Line {
+            anchor_row: anchor.row,
+            head_row: head.row,
+        }),
+        2 => Ok(original::Selection::Block { anchor, head }),
+        _ => Err(refusal(10)),
     }
+}
 
+impl Row {
     fn expected(&self) -> Answer<Span> {
-        let span = self.selection()?.row_span(self.row as usize);
+        let span = selection(self.kind, self.sel)?.row_span(self.row as usize);
         Ok(match span {
             None => Span::Outside,
             Some((lo, usize::MAX)) => Span::Open { lo: lo as u32 },
@@ -87,7 +88,7 @@ pub fn small(work: &mut Work) {
 }
 
 /// A number among few, or any, or one of the last.
-fn any_number(random: &mut Random, breadth: usize) -> u32 {
+pub fn any_number(random: &mut Random, breadth: usize) -> u32 {
     match random.below(10) {
         0 => random.value(),
         1 => u32::MAX - random.below(2) as u32,

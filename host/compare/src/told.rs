@@ -2,10 +2,11 @@
 
 use std::fmt::Debug;
 
-use winchbarn::raw::{Applied, Count, Place, Said, SelPlace, Span};
+use winchbarn::raw::{Applied, Count, Frame, Place, Rows, Said, SelPlace, Span, Viewed};
 use winchbarn::{Position, Refusal, Sel, View};
 
 use crate::bridge::Done;
+use crate::calls::Whole;
 use crate::law::Answer;
 use crate::tally::Verdict;
 
@@ -63,6 +64,35 @@ pub fn spanned(answer: &Answer<winchbarn::Span>) -> Span {
         open,
         lo,
         hi,
+    }
+}
+
+pub fn bounded(answer: &Answer<(u32, u32)>) -> Rows {
+    let (top, bottom) = answer.unwrap_or_default();
+    Rows {
+        refusal: number(answer),
+        top,
+        bottom,
+    }
+}
+
+pub fn framed(answer: &Answer<Whole>) -> Frame {
+    let whole = answer.as_ref().cloned().unwrap_or_default();
+    Frame {
+        refusal: number(answer),
+        offset: offset(answer),
+        edit: whole.edit,
+        payload: whole.payload.len(),
+        first: whole.first.len(),
+        second: whole.second.len(),
+    }
+}
+
+/// A refusal has the view as it was given.
+pub fn viewed(view: View, answer: &Answer<View>) -> Viewed {
+    Viewed {
+        refusal: number(answer),
+        view: answer.unwrap_or(view),
     }
 }
 

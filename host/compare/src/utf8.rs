@@ -176,7 +176,7 @@ pub fn scalars(work: &mut Work) {
 }
 
 /// Scalars of every length, with one value that is none here and there.
-fn any_values(random: &mut Random) -> Vec<u32> {
+pub fn any_values(random: &mut Random) -> Vec<u32> {
     let length = match random.below(400) {
         0 => random.below(20_000),
         _ => random.below(24),

@@ -1,6 +1,6 @@
 //! The functions of `include/winchbarn.h`.
 
-use crate::raw::{Applied, Count, Edit, Place, Said, SelPlace, Span};
+use crate::raw::{Applied, Count, Edit, Frame, Place, Rows, Said, SelPlace, Span, Viewed};
 use crate::{Position, Sel, View};
 
 unsafe extern "C" {
@@ -15,6 +15,25 @@ unsafe extern "C" {
         text: *mut u32,
         text_len: usize,
         view: View,
+        edit: Edit,
+        payload: *const u32,
+        payload_len: usize,
+        first: *const u32,
+        first_len: usize,
+        second: *const u32,
+        second_len: usize,
+        out_payload: *mut u32,
+        out_payload_len: usize,
+        out_first: *mut u32,
+        out_first_len: usize,
+        out_second: *mut u32,
+        out_second_len: usize,
+    ) -> Applied;
+
+    pub(crate) fn winchbarn_apply_edit_in(
+        text: *mut u32,
+        text_len: usize,
+        view: *mut View,
         edit: Edit,
         payload: *const u32,
         payload_len: usize,
@@ -56,6 +75,35 @@ unsafe extern "C" {
         out_len: usize,
     ) -> Count;
 
+    pub(crate) fn winchbarn_write_text(
+        text: *const u32,
+        text_len: usize,
+        out: *mut u8,
+        out_len: usize,
+    ) -> Count;
+
+    pub(crate) fn winchbarn_write_mark(mark: Sel, out: *mut u8, out_len: usize) -> Count;
+
+    pub(crate) fn winchbarn_read_edit(
+        line: *const u8,
+        line_len: usize,
+        out_payload: *mut u32,
+        out_payload_len: usize,
+        out_first: *mut u32,
+        out_first_len: usize,
+        out_second: *mut u32,
+        out_second_len: usize,
+    ) -> Frame;
+
+    pub(crate) fn winchbarn_read_text(
+        line: *const u8,
+        line_len: usize,
+        out: *mut u32,
+        out_len: usize,
+    ) -> Count;
+
+    pub(crate) fn winchbarn_read_mark(line: *const u8, line_len: usize) -> SelPlace;
+
     pub(crate) fn winchbarn_undoable(
         text: *const u32,
         text_len: usize,
@@ -68,6 +116,13 @@ unsafe extern "C" {
         second: *const u32,
         second_len: usize,
     ) -> Said;
+
+    pub(crate) fn winchbarn_set_cursor(
+        text: *const u32,
+        text_len: usize,
+        view: View,
+        pos: Position,
+    ) -> Viewed;
 
     pub(crate) fn winchbarn_clamp_position(
         text: *const u32,
@@ -118,6 +173,24 @@ unsafe extern "C" {
         out_len: usize,
     ) -> Count;
 
+    pub(crate) fn winchbarn_sel_caret(pos: Position) -> Sel;
+
+    pub(crate) fn winchbarn_sel_is_caret(sel: Sel) -> bool;
+
+    pub(crate) fn winchbarn_sel_start(sel: Sel) -> Position;
+
+    pub(crate) fn winchbarn_sel_end(sel: Sel) -> Position;
+
+    pub(crate) fn winchbarn_sel_overlaps(sel: Sel, other: Sel) -> bool;
+
+    pub(crate) fn winchbarn_selection_head(kind: u32, sel: Sel) -> Place;
+
+    pub(crate) fn winchbarn_selection_anchor(kind: u32, sel: Sel) -> Place;
+
+    pub(crate) fn winchbarn_selection_extend_to(kind: u32, sel: Sel, pos: Position) -> SelPlace;
+
+    pub(crate) fn winchbarn_selection_row_bounds(kind: u32, sel: Sel) -> Rows;
+
     pub(crate) fn winchbarn_row_span(kind: u32, sel: Sel, row: u32) -> Span;
 
     pub(crate) fn winchbarn_decode(
@@ -152,9 +225,12 @@ mod tests {
         assert_eq!(layout::<Edit>(), (24, 4));
         assert_eq!(layout::<Count>(), (24, 8));
         assert_eq!(layout::<Applied>(), (88, 8));
+        assert_eq!(layout::<Viewed>(), (32, 8));
+        assert_eq!(layout::<Frame>(), (64, 8));
         assert_eq!(layout::<Place>(), (16, 4));
         assert_eq!(layout::<SelPlace>(), (24, 4));
         assert_eq!(layout::<Span>(), (16, 4));
+        assert_eq!(layout::<Rows>(), (12, 4));
         assert_eq!(layout::<Said>(), (8, 4));
     }
 
@@ -171,6 +247,12 @@ mod tests {
             offset_of!(Applied, payload),
             offset_of!(Applied, first),
             offset_of!(Applied, second),
+            offset_of!(Viewed, view),
+            offset_of!(Frame, offset),
+            offset_of!(Frame, edit),
+            offset_of!(Frame, payload),
+            offset_of!(Frame, first),
+            offset_of!(Frame, second),
             offset_of!(Place, found),
             offset_of!(Place, at),
             offset_of!(SelPlace, sel),
@@ -178,12 +260,15 @@ mod tests {
             offset_of!(Span, open),
             offset_of!(Span, lo),
             offset_of!(Span, hi),
+            offset_of!(Rows, top),
+            offset_of!(Rows, bottom),
             offset_of!(Said, yes),
         ];
         assert_eq!(
             offsets,
             [
-                8, 16, 4, 12, 20, 16, 40, 64, 72, 80, 4, 8, 8, 4, 5, 8, 12, 4
+                8, 16, 4, 12, 20, 16, 40, 64, 72, 80, 8, 8, 16, 40, 48, 56, 4, 8, 8, 4, 5, 8, 12,
+                4, 8, 4
             ]
         );
     }

@@ -42,12 +42,14 @@
 //! `cargo check` do without it.
 
 mod ffi;
+mod frames;
 mod kind;
 pub mod raw;
 mod refusal;
 mod select;
 pub mod stack;
 
+pub use frames::{ReadEdit, read_edit, read_mark, read_text, write_mark, write_text};
 pub use kind::{Kind, Shape};
 pub use refusal::Refusal;
 pub use select::{Selection, Span, merge_overlapping};
@@ -188,6 +190,36 @@ pub fn apply_edit(
     ))
 }
 
+/// [`apply_edit`] on a view that is lent: it is updated where it stands, and kept where the edit is refused. Stack:
+/// [`stack::APPLY_EDIT_IN`].
+#[expect(
+    clippy::too_many_arguments,
+    reason = "an edit is numbers beside lent slices"
+)]
+pub fn apply_edit_in(
+    text: &mut [u32],
+    view: &mut View,
+    edit: Edit,
+    payload: &[u32],
+    first: &[u32],
+    second: &[u32],
+    out_payload: &mut [u32],
+    out_first: &mut [u32],
+    out_second: &mut [u32],
+) -> Result<Applied, Refusal> {
+    applied(raw::apply_edit_in(
+        text,
+        view,
+        edit.into(),
+        payload,
+        first,
+        second,
+        out_payload,
+        out_first,
+        out_second,
+    ))
+}
+
 /// Applies the edit that a script's line is, lower-case hexadecimal without the line feed, and leaves what [`apply_edit`]
 /// leaves. Refuses by 10 where the line is no frame of an edit, by 5, then by 1, 2, 3, 4, 7, 8, 9. Stack:
 /// [`stack::APPLY_FRAME`].
@@ -238,6 +270,14 @@ pub fn undoable(
     let said = raw::undoable(text, view, edit.into(), payload, first, second);
     accepted(said.refusal, 0)?;
     Ok(said.yes)
+}
+
+/// The view with its cursor at the position, brought into the text as [`clamp_position`] has it; the used length and the counter
+/// are as they were. Refuses by 1. Stack: [`stack::SET_CURSOR`].
+pub fn set_cursor(text: &[u32], view: View, pos: Position) -> Result<View, Refusal> {
+    let viewed = raw::set_cursor(text, view, pos);
+    accepted(viewed.refusal, 0)?;
+    Ok(viewed.view)
 }
 
 /// The position brought into the text: its row down to the last one, then its column to that row's length. Refuses by 1.

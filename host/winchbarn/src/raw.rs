@@ -61,6 +61,27 @@ pub struct Applied {
     pub second: usize,
 }
 
+/// The view with its cursor set, `winchbarn_viewed`. A refusal has the view as it was given.
+#[repr(C)]
+#[derive(Clone, Copy, Debug, Default, PartialEq, Eq)]
+pub struct Viewed {
+    pub refusal: u32,
+    pub view: View,
+}
+
+/// The edit that a line is, and how much of its payload and lists was written, `winchbarn_frame`. A refusal has zeros for the
+/// rest, but for `offset` under 5.
+#[repr(C)]
+#[derive(Clone, Copy, Debug, Default, PartialEq, Eq)]
+pub struct Frame {
+    pub refusal: u32,
+    pub offset: usize,
+    pub edit: Edit,
+    pub payload: usize,
+    pub first: usize,
+    pub second: usize,
+}
+
 /// A position, `winchbarn_place`; zeros where there is none.
 #[repr(C)]
 #[derive(Clone, Copy, Debug, Default, PartialEq, Eq)]
@@ -90,6 +111,15 @@ pub struct Span {
     pub hi: u32,
 }
 
+/// The first and the last row of a selection, `winchbarn_rows`. A refusal has zeros.
+#[repr(C)]
+#[derive(Clone, Copy, Debug, Default, PartialEq, Eq)]
+pub struct Rows {
+    pub refusal: u32,
+    pub top: u32,
+    pub bottom: u32,
+}
+
 /// Yes or no, `winchbarn_said`. A refusal says no.
 #[repr(C)]
 #[derive(Clone, Copy, Debug, Default, PartialEq, Eq)]
@@ -100,6 +130,7 @@ pub struct Said {
 
 // Each call below is sound: a slice reference is what the header asks of a pointer with its length. It is aligned and not null,
 // also where it is empty; its elements can be read, and written where it is mutable; and what is mutable overlaps nothing else.
+// A reference to a view is the same of one view.
 
 pub fn run_script(input: &[u8], out: &mut [u8]) -> Count {
     unsafe { ffi::winchbarn_run_script(input.as_ptr(), input.len(), out.as_mut_ptr(), out.len()) }
@@ -122,6 +153,43 @@ pub fn apply_edit(
 ) -> Applied {
     unsafe {
         ffi::winchbarn_apply_edit(
+            text.as_mut_ptr(),
+            text.len(),
+            view,
+            edit,
+            payload.as_ptr(),
+            payload.len(),
+            first.as_ptr(),
+            first.len(),
+            second.as_ptr(),
+            second.len(),
+            out_payload.as_mut_ptr(),
+            out_payload.len(),
+            out_first.as_mut_ptr(),
+            out_first.len(),
+            out_second.as_mut_ptr(),
+            out_second.len(),
+        )
+    }
+}
+
+#[expect(
+    clippy::too_many_arguments,
+    reason = "an edit is numbers beside lent slices"
+)]
+pub fn apply_edit_in(
+    text: &mut [u32],
+    view: &mut View,
+    edit: Edit,
+    payload: &[u32],
+    first: &[u32],
+    second: &[u32],
+    out_payload: &mut [u32],
+    out_first: &mut [u32],
+    out_second: &mut [u32],
+) -> Applied {
+    unsafe {
+        ffi::winchbarn_apply_edit_in(
             text.as_mut_ptr(),
             text.len(),
             view,
@@ -189,6 +257,42 @@ pub fn write_edit(
     }
 }
 
+pub fn write_text(text: &[u32], out: &mut [u8]) -> Count {
+    unsafe { ffi::winchbarn_write_text(text.as_ptr(), text.len(), out.as_mut_ptr(), out.len()) }
+}
+
+pub fn write_mark(mark: Sel, out: &mut [u8]) -> Count {
+    unsafe { ffi::winchbarn_write_mark(mark, out.as_mut_ptr(), out.len()) }
+}
+
+pub fn read_edit(
+    line: &[u8],
+    out_payload: &mut [u32],
+    out_first: &mut [u32],
+    out_second: &mut [u32],
+) -> Frame {
+    unsafe {
+        ffi::winchbarn_read_edit(
+            line.as_ptr(),
+            line.len(),
+            out_payload.as_mut_ptr(),
+            out_payload.len(),
+            out_first.as_mut_ptr(),
+            out_first.len(),
+            out_second.as_mut_ptr(),
+            out_second.len(),
+        )
+    }
+}
+
+pub fn read_text(line: &[u8], out: &mut [u32]) -> Count {
+    unsafe { ffi::winchbarn_read_text(line.as_ptr(), line.len(), out.as_mut_ptr(), out.len()) }
+}
+
+pub fn read_mark(line: &[u8]) -> SelPlace {
+    unsafe { ffi::winchbarn_read_mark(line.as_ptr(), line.len()) }
+}
+
 pub fn undoable(
     text: &[u32],
     view: View,
@@ -211,6 +315,10 @@ pub fn undoable(
             second.len(),
         )
     }
+}
+
+pub fn set_cursor(text: &[u32], view: View, pos: Position) -> Viewed {
+    unsafe { ffi::winchbarn_set_cursor(text.as_ptr(), text.len(), view, pos) }
 }
 
 pub fn clamp_position(text: &[u32], used: usize, pos: Position) -> Place {
@@ -277,6 +385,42 @@ pub fn merge_overlapping(sels: &[u32], out: &mut [u32]) -> Count {
     unsafe {
         ffi::winchbarn_merge_overlapping(sels.as_ptr(), sels.len(), out.as_mut_ptr(), out.len())
     }
+}
+
+pub fn sel_caret(pos: Position) -> Sel {
+    unsafe { ffi::winchbarn_sel_caret(pos) }
+}
+
+pub fn sel_is_caret(sel: Sel) -> bool {
+    unsafe { ffi::winchbarn_sel_is_caret(sel) }
+}
+
+pub fn sel_start(sel: Sel) -> Position {
+    unsafe { ffi::winchbarn_sel_start(sel) }
+}
+
+pub fn sel_end(sel: Sel) -> Position {
+    unsafe { ffi::winchbarn_sel_end(sel) }
+}
+
+pub fn sel_overlaps(sel: Sel, other: Sel) -> bool {
+    unsafe { ffi::winchbarn_sel_overlaps(sel, other) }
+}
+
+pub fn selection_head(kind: u32, sel: Sel) -> Place {
+    unsafe { ffi::winchbarn_selection_head(kind, sel) }
+}
+
+pub fn selection_anchor(kind: u32, sel: Sel) -> Place {
+    unsafe { ffi::winchbarn_selection_anchor(kind, sel) }
+}
+
+pub fn selection_extend_to(kind: u32, sel: Sel, pos: Position) -> SelPlace {
+    unsafe { ffi::winchbarn_selection_extend_to(kind, sel, pos) }
+}
+
+pub fn selection_row_bounds(kind: u32, sel: Sel) -> Rows {
+    unsafe { ffi::winchbarn_selection_row_bounds(kind, sel) }
 }
 
 pub fn row_span(kind: u32, sel: Sel, row: u32) -> Span {

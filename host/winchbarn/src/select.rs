@@ -1,8 +1,9 @@
 //! Selections.
 
+use std::ops::RangeInclusive;
 use std::slice;
 
-use crate::{Refusal, Sel, Shape, counted, raw};
+use crate::{Position, Refusal, Sel, Shape, counted, raw};
 
 /// Two ends, and what is covered between them.
 #[derive(Clone, Copy, Debug, PartialEq, Eq, Hash)]
@@ -25,7 +26,60 @@ pub enum Span {
     },
 }
 
+/// Stack, of each: [`stack::SEL`](crate::stack::SEL).
+impl Sel {
+    /// Both ends at the position.
+    pub fn caret(pos: Position) -> Self {
+        raw::sel_caret(pos)
+    }
+
+    /// Whether both ends are at one position.
+    pub fn is_caret(self) -> bool {
+        raw::sel_is_caret(self)
+    }
+
+    /// The earlier end.
+    pub fn start(self) -> Position {
+        raw::sel_start(self)
+    }
+
+    /// The later end.
+    pub fn end(self) -> Position {
+        raw::sel_end(self)
+    }
+
+    /// Whether the two share even one position.
+    pub fn overlaps(self, other: Self) -> bool {
+        raw::sel_overlaps(self, other)
+    }
+}
+
+/// Stack, of all but [`Selection::row_span`]: [`stack::SELECTION`](crate::stack::SELECTION).
 impl Selection {
+    /// The head; of [`Shape::Line`] it is at column 0.
+    pub fn head(self) -> Position {
+        raw::selection_head(self.shape.number(), self.sel).at
+    }
+
+    /// The anchor; of [`Shape::Line`] it is at column 0.
+    pub fn anchor(self) -> Position {
+        raw::selection_anchor(self.shape.number(), self.sel).at
+    }
+
+    /// The selection with its head at the position; the columns of [`Shape::Line`] are then 0.
+    pub fn extend_to(self, pos: Position) -> Self {
+        Self {
+            sel: raw::selection_extend_to(self.shape.number(), self.sel, pos).sel,
+            ..self
+        }
+    }
+
+    /// The rows that it covers, from the first to the last.
+    pub fn row_bounds(self) -> RangeInclusive<u32> {
+        let rows = raw::selection_row_bounds(self.shape.number(), self.sel);
+        rows.top..=rows.bottom
+    }
+
     /// The columns of a row that it covers. Stack: [`stack::ROW_SPAN`](crate::stack::ROW_SPAN).
     pub fn row_span(self, row: u32) -> Span {
         let span = raw::row_span(self.shape.number(), self.sel, row);

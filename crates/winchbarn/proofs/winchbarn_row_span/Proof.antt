@@ -1,4 +1,8 @@
-use Rattle.winchbarn.proofs.Tellings.{span-called, span-kindless}
+use mathlib.Core.Path.{ap, _∙_}
+use Rattle.winchbarn.proofs.Tellings.{by-kind, kindless}
+use Rattle.plain.specs.Told.{noCover, toldSpan}
+use Rattle.select.specs.declared.Selection.{Selection}
+use Rattle.select.specs.Selections.{rowSpan}
 use borrow.Author.Needs.{needs}
 use Rattle.winchbarn.proofs.winchbarn_row_span.Statement.{statement}
 use Rattle.winchbarn.proofs.winchbarn_row_span.Tie as tie
@@ -22,10 +26,10 @@ no-cover-requires : tie.Need-no-cover-requires
 no-cover-requires c κs = search needs
 
 returns : tie.Need-returns
-returns c = span-called (c .before .before .before .before .before .before .args .kind) (c .before .before .before .before .before .before .args .sel) (c .before .before .before .before .before .before .args .row) (c .before .before .before .before .before .meant-selection .result) (c .before .before .before .before .before .meant-selection .ensures) _ _ (c .before .before .before .meant .given .1) _ (c .told-span .ensures) (c .before .row-span .ensures)
+returns c = by-kind (c .before .before .before .before .before .before .args .kind) (c .before .before .before .before .before .before .args .sel) (c .before .before .before .before .before .meant-selection .result) (c .before .before .before .before .before .meant-selection .ensures) _ (noCover 10) (λ (s : Selection). toldSpan (rowSpan s (c .before .before .before .before .before .before .args .row))) _ (c .before .before .before .meant .given .1) (c .told-span .ensures ∙ ap toldSpan (c .before .row-span .ensures))
 
 returns-2 : tie.Need-returns-2
-returns-2 c = span-kindless (c .before .before .before .before .args .kind) (c .before .before .before .before .args .sel) (c .before .before .before .before .args .row) (c .before .before .before .meant-selection .result) (c .before .before .before .meant-selection .ensures) _ (c .before .enum-told .given .1) (c .no-cover .ensures)
+returns-2 c = kindless (c .before .before .before .before .args .kind) (c .before .before .before .before .args .sel) (c .before .before .before .meant-selection .result) (c .before .before .before .meant-selection .ensures) _ (noCover 10) (λ (s : Selection). toldSpan (rowSpan s (c .before .before .before .before .args .row))) (c .before .enum-told .given .1) (c .no-cover .ensures)
 
 pub winchbarn-row-span-spec : {M : Type 1} → statement M
 winchbarn-row-span-spec =
