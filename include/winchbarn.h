@@ -322,8 +322,8 @@ winchbarn_applied winchbarn_apply_frame(uint32_t *text, size_t text_len, winchba
                                         uint32_t *out_payload, size_t out_payload_len, uint32_t *out_first, size_t out_first_len,
                                         uint32_t *out_second, size_t out_second_len);
 
-/* As winchbarn_apply_edit, with the view lent: it is updated where it stands to the answer's, and kept where the edit is refused. It is no
- * null pointer either, and overlaps no slice. Refuses as winchbarn_apply_edit. */
+/* As winchbarn_apply_edit, with the view lent: it is updated where it stands to the answer's, and kept where the edit is refused. The
+ * pointer to it is aligned and not null, and it overlaps no slice of the call. Refuses as winchbarn_apply_edit. */
 winchbarn_applied winchbarn_apply_edit_in(uint32_t *text, size_t text_len, winchbarn_view *view, winchbarn_edit edit,
                                           const uint32_t *payload, size_t payload_len, const uint32_t *first, size_t first_len,
                                           const uint32_t *second, size_t second_len, uint32_t *out_payload, size_t out_payload_len,
@@ -341,9 +341,8 @@ winchbarn_count winchbarn_write_text(const uint32_t *text, size_t text_len, uint
 /* A mark's line, the same way. Refuses by 8. */
 winchbarn_count winchbarn_write_mark(winchbarn_sel mark, uint8_t *out, size_t out_len);
 
-/* The edit that a script's line is, without its line feed; its payload and lists go to the front of the slices, the rest of which is kept. 18,432
- * characters and 4,608 and 3,687 items are always enough. Refuses by 10 where the line is no frame of an
- * edit, then 5, 8. */
+/* The edit that a script's line is, without its line feed; its payload and lists go to the front of the slices, the rest of which is kept.
+ * 18,432 characters and 4,608 and 3,687 items are always enough. Refuses by 10 where the line is no frame of an edit, then 5, 8. */
 winchbarn_frame winchbarn_read_edit(const uint8_t *line, size_t line_len, uint32_t *out_payload, size_t out_payload_len,
                                     uint32_t *out_first, size_t out_first_len, uint32_t *out_second, size_t out_second_len);
 

@@ -11,7 +11,7 @@ use text::is_text;
 ghost use mathlib.Core.Path.{_≡_};
 ghost use Prim.Native.Nat.{_≤_};
 ghost use lib.ListN.{length, drop};
-ghost use Rattle.text.specs.Rows.{rowCount, lastRow, rowLen, rowStart, span, clamp, offset, place, inText};
+ghost use Rattle.text.specs.Rows.{rowCount, lastRow, rowLen, rowStart, span, clamp, place, inText};
 ghost use Rattle.text.specs.Text.{isLF, textLimit};
 ghost use Rattle.text.specs.Answers.{paperClamped};
 ghost use Rattle.text.specs.Calls.{clampedIn};
@@ -145,15 +145,6 @@ pub fn clamp(text: &[u32], pos: Position) -> Position
 {
     let found = locate(text, pos);
     found.pos
-}
-
-// The offset of a position, clamped.
-pub fn pos_to_char_idx(text: &[u32], pos: Position) -> CharOffset
-    requires { ⌜ length (now text) ≤ textLimit ⌝ }
-    ensures { λ r. ⌜ r .0 ≡ offset isLF (now (text .entry)) pos ⌝ }
-{
-    let found = locate(text, pos);
-    found.at
 }
 
 // Whether clamping leaves the position as it is.
