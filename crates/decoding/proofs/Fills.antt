@@ -5,6 +5,7 @@ use mathlib.Core.List.{List, [], _∷_, _++_}
 use Prim.Native.Nat.{ℕ, zero, suc, _+_, _-_, _≤_, _<_}
 use native.Mathlib.Numerals.{add-one}
 use native.Mathlib.Omega.{arith}
+use lib.Count.{leadingZeros}
 use lib.ListN.{length, take, drop, getD, set, length-drop}
 use lib.Seq.{drop-cons}
 use Rattle.promise.specs.Paper.{done}
@@ -14,7 +15,7 @@ use Rattle.utf8.specs.Rfc3629.{UTF8-char, taken, number}
 use Rattle.utf8.specs.Reading.{scalars, badAt, readFrom}
 use Rattle.utf8.specs.Calls.{stepBy}
 use Rattle.utf8.proofs.Taken.{taken-le}
-use Rattle.utf8.proofs.Lead.{lead-two, lead-three, lead-four}
+use Rattle.utf8.proofs.Lead.{lead-one, lead-two, lead-three, lead-four}
 use Rattle.utf8.proofs.Readings.{read-lost, prepended}
 use Rattle.utf8.proofs.Stores.{stored-more, stored-end}
 use Rattle.sequences.proofs.Steps.{found, step-done, read-end}
@@ -53,24 +54,31 @@ module _ (s cs : List ℕ) (i k : ℕ) (inv : readFrom i 0 (drop i s) ≡ scalar
   fill-room : (n : ℕ) → taken UTF8-char (drop i s) ≡ n → 0 < n → i + n ≤ length s
   fill-room n t h = let l : n ≤ length s - i = simp length-drop at (rw t at (taken-le UTF8-char (drop i s))) in omega arith
 
-  module _ (h : i < length s) where
-    pub fill-two : 0x7F < getD s i 0 → getD s i 0 ≤ 0xDF → Stands s i (getD s i 0 ∷ getD s (i + 1) 0 ∷ []) 2
+  module _ (h : i < length s) (o : ℕ) (b : getD s i 0 < 256) (c : o ≡ leadingZeros 8 (255 - getD s i 0)) where
+    pub fill-one : o ≤ 1 → (v : ℕ) → v ≡ getD s i 0 → done (v, i + 1) ≡ stepBy UTF8-char s i
+    unfolding number
+    fill-one u v f =
+        let t = fill-taken 1 h (λ m e. lead-one (getD s i 0) o (drop (i + 1) s) m b c e u) in
+        let d = next s i h in
+        found UTF8-char s (getD s i 0 ∷ []) (drop (i + 1) s) i 0 true d refl (ap (taken UTF8-char) (sym d) ∙ t) v refl f
+
+    pub fill-two : 1 < o → o ≤ 2 → Stands s i (getD s i 0 ∷ getD s (i + 1) 0 ∷ []) 2
     fill-two l u =
-        let t = fill-taken 2 h (λ m e. lead-two (getD s i 0) (drop (i + 1) s) m e l u) in
+        let t = fill-taken 2 h (λ m e. lead-two (getD s i 0) o (drop (i + 1) s) m b c e l u) in
         let r = fill-room 2 t (omega arith) in
         let d = next-2 s i (omega arith) in
         (r, λ v f. found UTF8-char s (getD s i 0 ∷ getD s (i + 1) 0 ∷ []) (drop (i + 2) s) i 1 true d refl (ap (taken UTF8-char) (sym d) ∙ t) v refl f)
 
-    pub fill-three : 0xDF < getD s i 0 → getD s i 0 ≤ 0xEF → Stands s i (getD s i 0 ∷ getD s (i + 1) 0 ∷ getD s (i + 2) 0 ∷ []) 3
+    pub fill-three : 2 < o → o ≤ 3 → Stands s i (getD s i 0 ∷ getD s (i + 1) 0 ∷ getD s (i + 2) 0 ∷ []) 3
     fill-three l u =
-        let t = fill-taken 3 h (λ m e. lead-three (getD s i 0) (drop (i + 1) s) m e l u) in
+        let t = fill-taken 3 h (λ m e. lead-three (getD s i 0) o (drop (i + 1) s) m b c e l u) in
         let r = fill-room 3 t (omega arith) in
         let d = next-3 s i (omega arith) in
         (r, λ v f. found UTF8-char s (getD s i 0 ∷ getD s (i + 1) 0 ∷ getD s (i + 2) 0 ∷ []) (drop (i + 3) s) i 2 true d refl (ap (taken UTF8-char) (sym d) ∙ t) v refl f)
 
-    pub fill-four : 0xEF < getD s i 0 → Stands s i (getD s i 0 ∷ getD s (i + 1) 0 ∷ getD s (i + 2) 0 ∷ getD s (i + 3) 0 ∷ []) 4
+    pub fill-four : 3 < o → Stands s i (getD s i 0 ∷ getD s (i + 1) 0 ∷ getD s (i + 2) 0 ∷ getD s (i + 3) 0 ∷ []) 4
     fill-four l =
-        let t = fill-taken 4 h (λ m e. lead-four (getD s i 0) (drop (i + 1) s) m e l) in
+        let t = fill-taken 4 h (λ m e. lead-four (getD s i 0) o (drop (i + 1) s) m b c e l) in
         let r = fill-room 4 t (omega arith) in
         let d = next-4 s i (omega arith) in
         (r, λ v f. found UTF8-char s (getD s i 0 ∷ getD s (i + 1) 0 ∷ getD s (i + 2) 0 ∷ getD s (i + 3) 0 ∷ []) (drop (i + 4) s) i 3 true d refl (ap (taken UTF8-char) (sym d) ∙ t) v refl f)

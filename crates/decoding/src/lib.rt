@@ -1,5 +1,6 @@
 // Octets to scalars, whole slices of them.
 use sequences::is_three;
+use sequences::leading_ones;
 use sequences::number_of_four;
 use sequences::number_of_three;
 use sequences::number_of_two;
@@ -70,7 +71,8 @@ fn starts_three(bytes: &[u8], start: usize) -> bool
     is_three(bytes[start], bytes[start + 1], bytes[start + 2])
 }
 
-// How many scalars the bytes hold. A run of one or three octets is read here, with no call of `read_scalar`.
+// How many scalars the bytes hold. By its lead's leading one bits a sequence of one or three octets is read here, and any other by
+// `read_scalar`.
 pub fn count_scalars(bytes: &[u8]) -> ScalarCount
     ensures { λ r. ⌜ paperScalarCount r ≡ counted (reading (now (bytes .entry))) ⌝ }
 {
@@ -78,7 +80,8 @@ pub fn count_scalars(bytes: &[u8]) -> ScalarCount
     let mut at = ByteOffset(0);
     while at.0 < bytes.len() {
         let start = at.0;
-        if bytes[start] <= 0x7F {
+        let ones = leading_ones(bytes[start]);
+        if ones == 0 {
             if starts_block(bytes, start) {
                 at = ByteOffset(start + 16);
                 count += 16;
@@ -86,7 +89,10 @@ pub fn count_scalars(bytes: &[u8]) -> ScalarCount
                 at = ByteOffset(start + 1);
                 count += 1;
             }
-        } else if starts_three(bytes, start) {
+        } else if ones == 3 {
+            if !starts_three(bytes, start) {
+                return ScalarCount::BadUtf8(ByteOffset(start));
+            }
             at = ByteOffset(start + 3);
             count += 1;
         } else {
@@ -100,8 +106,8 @@ pub fn count_scalars(bytes: &[u8]) -> ScalarCount
     ScalarCount::Scalars(count)
 }
 
-// The scalars of well-formed bytes, to the front of a slice that has room for them. The lead alone tells how many octets stand
-// there.
+// The scalars of well-formed bytes, to the front of a slice that has room for them. The lead's leading one bits alone tell how many
+// octets stand there: none for one, and else as many as they are. (They are asked for by order: a chain of equalities is slower.)
 fn fill_scalars(bytes: &[u8], out: &mut [u32])
     requires { ⌜ fillable (reading (now bytes)) (length (now out)) ⌝ }
     ensures { λ _. ⌜ now (out .exit) ≡ over (scalarsOf (reading (now (bytes .entry)))) (now (out .entry)) ⌝ }
@@ -111,7 +117,8 @@ fn fill_scalars(bytes: &[u8], out: &mut [u32])
     while at.0 < bytes.len() {
         let start = at.0;
         let lead = bytes[start];
-        if lead <= 0x7F {
+        let ones = leading_ones(lead);
+        if ones <= 1 {
             if starts_block(bytes, start) {
                 widen_block(bytes, start, out, count);
                 at = ByteOffset(start + 16);
@@ -121,11 +128,11 @@ fn fill_scalars(bytes: &[u8], out: &mut [u32])
                 at = ByteOffset(start + 1);
                 count += 1;
             }
-        } else if lead <= 0xDF {
+        } else if ones <= 2 {
             out[count] = number_of_two(lead, bytes[start + 1]);
             at = ByteOffset(start + 2);
             count += 1;
-        } else if lead <= 0xEF {
+        } else if ones <= 3 {
             out[count] = number_of_three(lead, bytes[start + 1], bytes[start + 2]);
             at = ByteOffset(start + 3);
             count += 1;

@@ -1,6 +1,6 @@
 -- One scalar read.
-use mathlib.Core.Path.{_≡_, refl, ap}
-use mathlib.Core.Bool.{Bool, true, false, cond}
+use mathlib.Core.Path.{_≡_, refl, sym, ap, _∙_}
+use mathlib.Core.Bool.{Bool, true, false, cond, false≢true}
 use mathlib.Core.List.{List, [], _∷_, _++_}
 use Prim.Native.Nat.{ℕ, zero, suc, _+_, _-_, _≤_, _<_}
 use native.Mathlib.Omega.{arith}
@@ -15,7 +15,7 @@ use Rattle.utf8.specs.Rfc3629.{Range, UTF8-3, UTF8-char, taken, number}
 use Rattle.utf8.specs.Lead.{announced}
 use Rattle.utf8.specs.Reading.{scalars, badAt, prepend, readFrom}
 use Rattle.utf8.specs.Calls.{stepped, stepBy}
-use Rattle.utf8.proofs.Lead.{leads, three-char}
+use Rattle.utf8.proofs.Lead.{leads, three-taken}
 use Rattle.utf8.proofs.Agree.{takes-1}
 use Rattle.utf8.proofs.Taken.{longRows, taken-short, taken-le}
 use Rattle.utf8.proofs.Readings.{read-found, read-lost}
@@ -61,11 +61,23 @@ three-tested s i r h t = rw (next-3 s i h, t (drop (i + 3) s)) (go r)
     go true = refl
     go false = refl
 
-pub three-step : (s : List ℕ) (i : ℕ) → i < length s → eqb (taken UTF8-3 (drop i s)) 3 ≡ true → done (number (take 3 (drop i s)), i + 3) ≡ stepBy UTF8-char s i
-unfolding stepped
-three-step s i h e =
-    let t : taken UTF8-char (drop i s) ≡ 3 = rw (next s i h) (three-char (getD s i 0) (drop (i + 1) s) (rw (next s i h) at (eqb-true (taken UTF8-3 (drop i s)) 3 e))) in
-    rw t
+-- and where its lead announces it
+module _ (s : List ℕ) (i o : ℕ) (h : i < length s) (k : getD s i 0 < 256) (e : o ≡ leadingZeros 8 (255 - getD s i 0)) (q : o ≡ 3) where
+  three-announced : stepBy UTF8-3 s i ≡ stepBy UTF8-char s i
+  unfolding announced
+  three-announced = rw q at (announces s i o h k e)
+
+  pub three-step : eqb (taken UTF8-3 (drop i s)) 3 ≡ true → done (number (take 3 (drop i s)), i + 3) ≡ stepBy UTF8-char s i
+  unfolding stepped
+  three-step f = rw (← three-announced, eqb-true (taken UTF8-3 (drop i s)) 3 f)
+
+  pub three-lost : eqb (taken UTF8-3 (drop i s)) 3 ≡ false → refused 5 i ≡ stepBy UTF8-char s i
+  unfolding stepped
+  three-lost f = go (taken UTF8-3 (drop i s)) refl ∙ three-announced
+    where
+      go : (n : ℕ) → taken UTF8-3 (drop i s) ≡ n → refused 5 i ≡ stepBy UTF8-3 s i
+      go zero t = rw t
+      go (suc m) t = absurd (false≢true (sym (rw (three-taken (drop i s) m t) at f)))
 
 -- What a step at i tells of the reading from i on.
 module _ (s : List ℕ) (i : ℕ) where

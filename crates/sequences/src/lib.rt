@@ -19,7 +19,7 @@ pub fn wide(x: u8) -> u32
     x as u32
 }
 
-fn leading_ones(x: u8) -> u32
+pub fn leading_ones(x: u8) -> u32
     ensures { λ r. ⌜ r ≡ leadingZeros 8 (255 - x) ⌝ }
 {
     u8::leading_zeros(!x)

@@ -1,19 +1,18 @@
 -- The lead's count of leading one bits picks the one rule of the ABNF that can take its sequence.
 use mathlib.Core.Path.{_≡_, refl, sym, ap, _∙_}
-use mathlib.Core.Bool.{Bool, true, false, cond, not, _&&_, _||_, and-false}
+use mathlib.Core.Bool.{Bool, true, false, cond, not, _&&_, _||_}
 use mathlib.Core.List.{List, [], _∷_, _++_, append-nil}
 use mathlib.Core.Logic.{⊎-elim}
 use Prim.Native.Nat.{ℕ, zero, suc, _-_, _<_, _≤_}
 use native.Mathlib.Nat.{eq-or-lt-of-le}
 use native.Mathlib.Omega.{arith}
-use borrow.Author.Tests.{not-true, eq-eqb, eqb-true, leb-true, lt-leb}
+use borrow.Author.Tests.{not-true, eq-eqb, ne-eqb, eqb-true, leb-true}
 use lib.Count.{leadingZeros}
 use lib.Dec.{eqb, leb}
 use lib.ListN.{length}
 use Rattle.utf8.specs.Rfc3629.{Range, UTF8-1, UTF8-2, UTF8-3, UTF8-4, UTF8-char, within, begins, taken}
 use Rattle.utf8.specs.Lead.{announced}
 use Rattle.promise.proofs.Bools.{both}
-use Rattle.utf8.proofs.Numbers.{at-most}
 
 -- a rule of every number below n, by one computed test
 abbrev pub below : (ℕ → Bool) → ℕ → Bool
@@ -91,7 +90,7 @@ pub no-ones : (b : ℕ) → b < 256 → leadingZeros 8 (255 - b) ≡ 0 → b ≤
 unfolding single
 no-ones b h e = leb-true _ _ (rw (eq-eqb _ 0 e) at (each single 256 singles b h))
 
--- Well-formed octets: their first tells how many there are.
+-- Well-formed octets: their lead's count tells how many there are.
 sized : ℕ → List (List Range) → Bool
 sized n [] = true
 sized n (row ∷ rows) = eqb (length row) n && sized n rows
@@ -108,46 +107,34 @@ taken-sized n (row ∷ rows) s m e t = go (begins row s) t (taken-sized n rows s
     go true t f = eqb-true _ _ (b .0)
     go false t f = f t
 
-module _ (x : ℕ) (s : List ℕ) (m : ℕ) (t : taken UTF8-char (x ∷ s) ≡ suc m) where
-  pub lead-two : 0x7F < x → x ≤ 0xDF → taken UTF8-char (x ∷ s) ≡ 2
+pub three-taken : (s : List ℕ) (m : ℕ) → taken UTF8-3 s ≡ suc m → taken UTF8-3 s ≡ 3
+unfolding sized
+three-taken s m t = taken-sized 3 UTF8-3 s m refl t
+
+module _ (x o : ℕ) (s : List ℕ) (m : ℕ) (h : x < 256) (e : o ≡ leadingZeros 8 (255 - x)) (t : taken UTF8-char (x ∷ s) ≡ suc m) where
+  lead-sized : (n : ℕ) → sized n (announced o) ≡ true → taken UTF8-char (x ∷ s) ≡ n
+  lead-sized n k =
+      let l : taken UTF8-char (x ∷ s) ≡ taken (announced o) (x ∷ s) = rw e (leads x s h) in
+      l ∙ taken-sized n (announced o) (x ∷ s) m k (sym l ∙ t)
+
+  -- by the order of the counts, of which 1 and those over 4 announce nothing
+  lead-or : (n : ℕ) (rule : List (List Range)) (b : Bool) → sized n rule ≡ true → announced o ≡ cond b rule [] → taken UTF8-char (x ∷ s) ≡ n
   unfolding sized
-  lead-two l h =
-      let o = only x s UTF8-1 UTF8-2 (UTF8-3 ++ UTF8-4) (rw (lt-leb x 0x7F l) (simp and-false)) (rw (lt-leb 0xE0 x (omega arith), lt-leb 0xE1 x (omega arith), lt-leb 0xED x (omega arith), lt-leb 0xEE x (omega arith), lt-leb 0xF0 x (omega arith), lt-leb 0xF1 x (omega arith), lt-leb 0xF4 x (omega arith))) in
-      o ∙ taken-sized 2 UTF8-2 (x ∷ s) m refl (sym o ∙ t)
+  lead-or n rule true k a = lead-sized n (rw a k)
+  lead-or n rule false k a = lead-sized n (rw a)
 
-  pub lead-three : 0xDF < x → x ≤ 0xEF → taken UTF8-char (x ∷ s) ≡ 3
-  unfolding sized
-  lead-three l h =
-      let o = only x s (UTF8-1 ++ UTF8-2) UTF8-3 UTF8-4 (rw (lt-leb x 0x7F (omega arith), lt-leb x 0xDF l) (simp and-false)) (rw (lt-leb 0xF0 x (omega arith), lt-leb 0xF1 x (omega arith), lt-leb 0xF4 x (omega arith))) in
-      o ∙ taken-sized 3 UTF8-3 (x ∷ s) m refl (sym o ∙ t)
+  pub lead-one : o ≤ 1 → taken UTF8-char (x ∷ s) ≡ 1
+  unfolding announced sized
+  lead-one l = lead-or 1 UTF8-1 (eqb o 0) refl (rw (ne-eqb o 2 (λ q. omega arith), ne-eqb o 3 (λ q. omega arith), ne-eqb o 4 (λ q. omega arith)))
 
-  pub lead-four : 0xEF < x → taken UTF8-char (x ∷ s) ≡ 4
-  unfolding sized
-  lead-four l =
-      let o = only x s (UTF8-1 ++ (UTF8-2 ++ UTF8-3)) UTF8-4 []
-      (rw (lt-leb x 0x7F (omega arith), lt-leb x 0xDF (omega arith), lt-leb x 0xE0 (omega arith), lt-leb x 0xEC (omega arith), lt-leb x 0xED (omega arith), lt-leb x 0xEF l) (simp and-false)) refl in
-      o ∙ taken-sized 4 UTF8-4 (x ∷ s) m refl (sym o ∙ t)
+  pub lead-two : 1 < o → o ≤ 2 → taken UTF8-char (x ∷ s) ≡ 2
+  unfolding announced sized
+  lead-two l u = let q : o ≡ 2 = omega arith in lead-sized 2 (rw q)
 
--- three octets of UTF8-3 are a UTF8-char
-taken-front : (rule rules : List (List Range)) (s : List ℕ) (n : ℕ) → taken rule s ≡ suc n → taken (rule ++ rules) s ≡ suc n
-unfolding taken
-taken-front [] rules s n t = absurd (omega arith)
-taken-front (row ∷ rows) rules s n t = go (begins row s) t (taken-front rows rules s n)
-  where
-    go : (x : Bool) → cond x (length row) (taken rows s) ≡ suc n → (taken rows s ≡ suc n → taken (rows ++ rules) s ≡ suc n) → cond x (length row) (taken (rows ++ rules) s) ≡ suc n
-    go true t f = t
-    go false t f = f t
+  pub lead-three : 2 < o → o ≤ 3 → taken UTF8-char (x ∷ s) ≡ 3
+  unfolding announced sized
+  lead-three l u = let q : o ≡ 3 = omega arith in lead-sized 3 (rw q)
 
-three-lead : (x : ℕ) (s : List ℕ) → taken UTF8-3 (x ∷ s) ≡ 3 → 0xDF < x
-unfolding taken begins
-three-lead x s t = ⊎-elim low (λ l. l) (at-most x 0xDF)
-  where
-    low : x ≤ 0xDF → 0xDF < x
-    low h =
-        let z : _≡_ {A = ℕ} 0 3 = rw (lt-leb 0xE0 x (omega arith), lt-leb 0xE1 x (omega arith), lt-leb 0xED x (omega arith), lt-leb 0xEE x (omega arith)) at t in
-        absurd (omega arith)
-
-pub three-char : (x : ℕ) (s : List ℕ) → taken UTF8-3 (x ∷ s) ≡ 3 → taken UTF8-char (x ∷ s) ≡ 3
-three-char x s t =
-    let l = three-lead x s t in
-    skip x s (UTF8-1 ++ UTF8-2) (UTF8-3 ++ UTF8-4) (rw (lt-leb x 0x7F (omega arith), lt-leb x 0xDF l) (simp and-false)) ∙ taken-front UTF8-3 UTF8-4 (x ∷ s) 2 t
+  pub lead-four : 3 < o → taken UTF8-char (x ∷ s) ≡ 4
+  unfolding announced sized
+  lead-four l = lead-or 4 UTF8-4 (eqb o 4) refl (rw (ne-eqb o 0 (λ q. omega arith), ne-eqb o 2 (λ q. omega arith), ne-eqb o 3 (λ q. omega arith)))

@@ -4,9 +4,8 @@ use Prim.Native.Nat.{_≤_, _+_, _-_}
 use native.Mathlib.Omega.{arith}
 use borrow.Author.Needs.{needs}
 use lib.ListN.{length, take, drop, length-set}
-use Rattle.decoding.proofs.Fills.{Filled, fill-again, fill-two, fill-three, fill-four, fill-all}
+use Rattle.decoding.proofs.Fills.{Filled, fill-again, fill-one, fill-two, fill-three, fill-four, fill-all}
 use Rattle.decoding.proofs.Runs.{fill-run}
-use Rattle.sequences.proofs.Steps.{ascii}
 use Rattle.utf8.specs.Calls.{scalarsOf}
 use Rattle.utf8.specs.Reading.{scalars, readFrom, reading}
 use Rattle.decoding.proofs.fill_scalars.Statement.{statement}
@@ -19,25 +18,25 @@ abbrev μ-loop : tie.MeasureT-loop
 μ-loop bytes out₀ count₀ at₀ out count at = length bytes - at .0
 
 -- a turn, on each way
-ascii-turn : (c : tie.After-wide Inv-loop μ-loop) → Filled (c .before .before .before .before .before .before .before .before .before .before .args .bytes .now) (scalarsOf (reading (c .before .before .before .before .before .before .before .before .before .before .args .bytes .now))) (c .before .before .before .before .before .before .before .before .before .before .args .out .now) (c .before .before .before .before .before .before .before .loop .out) (c .before .before .before .before .before .before .before .loop .at .0) (c .before .before .before .before .before .before .before .loop .count) (c .wide .result) (c .before .before .before .before .before .before .before .loop .at .0 + 1)
+ascii-turn : (c : tie.After-wide Inv-loop μ-loop) → Filled (c .before .before .before .before .before .before .before .before .before .before .before .args .bytes .now) (scalarsOf (reading (c .before .before .before .before .before .before .before .before .before .before .before .args .bytes .now))) (c .before .before .before .before .before .before .before .before .before .before .before .args .out .now) (c .before .before .before .before .before .before .before .before .loop .out) (c .before .before .before .before .before .before .before .before .loop .at .0) (c .before .before .before .before .before .before .before .before .loop .count) (c .wide .result) (c .before .before .before .before .before .before .before .before .loop .at .0 + 1)
 ascii-turn c =
-    let l = c .before .before .before .before .before .before .before .loop in
-    fill-again _ _ (l .at .0) (l .count) (l .inv .3) _ _ (c .wide .result) (l .at .0 + 1) (ascii _ (l .at .0) _ (c .before .before .before .before .before .if1 .taken) (c .before .before .before .if2 .taken) (c .wide .ensures)) (l .inv .0) (c .before .before .before .before .before .before .before .before .before .before .pre .1) (l .inv .4)
+    let l = c .before .before .before .before .before .before .before .before .loop in
+    fill-again _ _ (l .at .0) (l .count) (l .inv .3) _ _ (c .wide .result) (l .at .0 + 1) (fill-one _ _ (l .at .0) (l .count) (l .inv .3) (c .before .before .before .before .before .before .if1 .taken) _ (c .before .before .before .before .before .shared-slice-known2 .given (l .at .0) .fits) (c .before .before .before .before .leading-ones .ensures) (c .before .before .before .if2 .taken) _ (c .wide .ensures)) (l .inv .0) (c .before .before .before .before .before .before .before .before .before .before .before .pre .1) (l .inv .4)
 
-two-turn : (c : tie.After-number-of-two Inv-loop μ-loop) → Filled (c .before .before .before .before .before .before .before .before .before .before .args .bytes .now) (scalarsOf (reading (c .before .before .before .before .before .before .before .before .before .before .args .bytes .now))) (c .before .before .before .before .before .before .before .before .before .before .args .out .now) (c .before .before .before .before .before .before .before .loop .out) (c .before .before .before .before .before .before .before .loop .at .0) (c .before .before .before .before .before .before .before .loop .count) (c .number-of-two .result) (c .before .before .before .before .before .before .before .loop .at .0 + 2)
+two-turn : (c : tie.After-number-of-two Inv-loop μ-loop) → Filled (c .before .before .before .before .before .before .before .before .before .before .before .args .bytes .now) (scalarsOf (reading (c .before .before .before .before .before .before .before .before .before .before .before .args .bytes .now))) (c .before .before .before .before .before .before .before .before .before .before .before .args .out .now) (c .before .before .before .before .before .before .before .before .loop .out) (c .before .before .before .before .before .before .before .before .loop .at .0) (c .before .before .before .before .before .before .before .before .loop .count) (c .number-of-two .result) (c .before .before .before .before .before .before .before .before .loop .at .0 + 2)
 two-turn c =
-    let l = c .before .before .before .before .before .before .before .loop in
-    fill-again _ _ (l .at .0) (l .count) (l .inv .3) _ _ (c .number-of-two .result) (l .at .0 + 2) (fill-two _ _ (l .at .0) (l .count) (l .inv .3) (c .before .before .before .before .before .if1 .taken) (c .before .before .before .if2 .left) (c .before .before .if4 .taken) .1 _ (c .number-of-two .ensures)) (l .inv .0) (c .before .before .before .before .before .before .before .before .before .before .pre .1) (l .inv .4)
+    let l = c .before .before .before .before .before .before .before .before .loop in
+    fill-again _ _ (l .at .0) (l .count) (l .inv .3) _ _ (c .number-of-two .result) (l .at .0 + 2) (fill-two _ _ (l .at .0) (l .count) (l .inv .3) (c .before .before .before .before .before .before .if1 .taken) _ (c .before .before .before .before .before .shared-slice-known2 .given (l .at .0) .fits) (c .before .before .before .before .leading-ones .ensures) (c .before .before .before .if2 .left) (c .before .before .if4 .taken) .1 _ (c .number-of-two .ensures)) (l .inv .0) (c .before .before .before .before .before .before .before .before .before .before .before .pre .1) (l .inv .4)
 
-three-turn : (c : tie.After-number-of-three Inv-loop μ-loop) → Filled (c .before .before .before .before .before .before .before .before .before .before .before .before .args .bytes .now) (scalarsOf (reading (c .before .before .before .before .before .before .before .before .before .before .before .before .args .bytes .now))) (c .before .before .before .before .before .before .before .before .before .before .before .before .args .out .now) (c .before .before .before .before .before .before .before .before .before .loop .out) (c .before .before .before .before .before .before .before .before .before .loop .at .0) (c .before .before .before .before .before .before .before .before .before .loop .count) (c .number-of-three .result) (c .before .before .before .before .before .before .before .before .before .loop .at .0 + 3)
+three-turn : (c : tie.After-number-of-three Inv-loop μ-loop) → Filled (c .before .before .before .before .before .before .before .before .before .before .before .before .before .args .bytes .now) (scalarsOf (reading (c .before .before .before .before .before .before .before .before .before .before .before .before .before .args .bytes .now))) (c .before .before .before .before .before .before .before .before .before .before .before .before .before .args .out .now) (c .before .before .before .before .before .before .before .before .before .before .loop .out) (c .before .before .before .before .before .before .before .before .before .before .loop .at .0) (c .before .before .before .before .before .before .before .before .before .before .loop .count) (c .number-of-three .result) (c .before .before .before .before .before .before .before .before .before .before .loop .at .0 + 3)
 three-turn c =
-    let l = c .before .before .before .before .before .before .before .before .before .loop in
-    fill-again _ _ (l .at .0) (l .count) (l .inv .3) _ _ (c .number-of-three .result) (l .at .0 + 3) (fill-three _ _ (l .at .0) (l .count) (l .inv .3) (c .before .before .before .before .before .before .before .if1 .taken) (c .before .before .before .before .if4 .left) (c .before .before .before .if5 .taken) .1 _ (c .number-of-three .ensures)) (l .inv .0) (c .before .before .before .before .before .before .before .before .before .before .before .before .pre .1) (l .inv .4)
-
-four-turn : (c : tie.After-number-of-four Inv-loop μ-loop) → Filled (c .before .before .before .before .before .before .before .before .before .before .before .before .before .args .bytes .now) (scalarsOf (reading (c .before .before .before .before .before .before .before .before .before .before .before .before .before .args .bytes .now))) (c .before .before .before .before .before .before .before .before .before .before .before .before .before .args .out .now) (c .before .before .before .before .before .before .before .before .before .before .loop .out) (c .before .before .before .before .before .before .before .before .before .before .loop .at .0) (c .before .before .before .before .before .before .before .before .before .before .loop .count) (c .number-of-four .result) (c .before .before .before .before .before .before .before .before .before .before .loop .at .0 + 4)
-four-turn c =
     let l = c .before .before .before .before .before .before .before .before .before .before .loop in
-    fill-again _ _ (l .at .0) (l .count) (l .inv .3) _ _ (c .number-of-four .result) (l .at .0 + 4) (fill-four _ _ (l .at .0) (l .count) (l .inv .3) (c .before .before .before .before .before .before .before .before .if1 .taken) (c .before .before .before .before .if5 .left) .1 _ (c .number-of-four .ensures)) (l .inv .0) (c .before .before .before .before .before .before .before .before .before .before .before .before .before .pre .1) (l .inv .4)
+    fill-again _ _ (l .at .0) (l .count) (l .inv .3) _ _ (c .number-of-three .result) (l .at .0 + 3) (fill-three _ _ (l .at .0) (l .count) (l .inv .3) (c .before .before .before .before .before .before .before .before .if1 .taken) _ (c .before .before .before .before .before .before .before .shared-slice-known2 .given (l .at .0) .fits) (c .before .before .before .before .before .before .leading-ones .ensures) (c .before .before .before .before .if4 .left) (c .before .before .before .if5 .taken) .1 _ (c .number-of-three .ensures)) (l .inv .0) (c .before .before .before .before .before .before .before .before .before .before .before .before .before .pre .1) (l .inv .4)
+
+four-turn : (c : tie.After-number-of-four Inv-loop μ-loop) → Filled (c .before .before .before .before .before .before .before .before .before .before .before .before .before .before .args .bytes .now) (scalarsOf (reading (c .before .before .before .before .before .before .before .before .before .before .before .before .before .before .args .bytes .now))) (c .before .before .before .before .before .before .before .before .before .before .before .before .before .before .args .out .now) (c .before .before .before .before .before .before .before .before .before .before .before .loop .out) (c .before .before .before .before .before .before .before .before .before .before .before .loop .at .0) (c .before .before .before .before .before .before .before .before .before .before .before .loop .count) (c .number-of-four .result) (c .before .before .before .before .before .before .before .before .before .before .before .loop .at .0 + 4)
+four-turn c =
+    let l = c .before .before .before .before .before .before .before .before .before .before .before .loop in
+    fill-again _ _ (l .at .0) (l .count) (l .inv .3) _ _ (c .number-of-four .result) (l .at .0 + 4) (fill-four _ _ (l .at .0) (l .count) (l .inv .3) (c .before .before .before .before .before .before .before .before .before .if1 .taken) _ (c .before .before .before .before .before .before .before .before .shared-slice-known2 .given (l .at .0) .fits) (c .before .before .before .before .before .before .before .leading-ones .ensures) (c .before .before .before .before .if5 .left) .1 _ (c .number-of-four .ensures)) (l .inv .0) (c .before .before .before .before .before .before .before .before .before .before .before .before .before .before .pre .1) (l .inv .4)
 
 loop-holds : tie.Need-loop-holds Inv-loop μ-loop
 loop-holds c = (omega arith, refl, omega arith, c .before .before .pre .0, refl)
@@ -45,37 +44,40 @@ loop-holds c = (omega arith, refl, omega arith, c .before .before .pre .0, refl)
 shared-slice-read-lead : tie.Need-shared-slice-read-lead Inv-loop μ-loop
 shared-slice-read-lead c = search needs
 
+leading-ones-requires : tie.Need-leading-ones-requires Inv-loop μ-loop
+leading-ones-requires c κs = search needs
+
 starts-block-requires : tie.Need-starts-block-requires Inv-loop μ-loop
 starts-block-requires c κs = search needs
 
 widen-block-requires : tie.Need-widen-block-requires Inv-loop μ-loop
-widen-block-requires c κs = let l = c .before .before .before .before .before .before .before .loop in let a = c .before .before .before .before .before .before .before .before .before .before .args in let s = a .bytes .now in
+widen-block-requires c κs = let l = c .before .before .before .before .before .before .before .before .loop in let a = c .before .before .before .before .before .before .before .before .before .before .before .args in let s = a .bytes .now in
     let g = c .before .before .starts-block .ensures (c .before .if3 .taken) in
-    let r = fill-run s (scalarsOf (reading s)) (a .out .now) (l .out) (l .at .0) (l .count) 16 (l .inv .3) (l .inv .4) (l .inv .2) (c .before .before .before .before .before .before .before .before .before .before .pre .1) (l .inv .1) (g .1) (g .0) in
-    (g .0, omega (arith, r .0, l .inv .1, c .before .before .before .before .before .before .before .before .before .before .pre .1))
+    let r = fill-run s (scalarsOf (reading s)) (a .out .now) (l .out) (l .at .0) (l .count) 16 (l .inv .3) (l .inv .4) (l .inv .2) (c .before .before .before .before .before .before .before .before .before .before .before .pre .1) (l .inv .1) (g .1) (g .0) in
+    (g .0, omega (arith, r .0, l .inv .1, c .before .before .before .before .before .before .before .before .before .before .before .pre .1))
 
-add-t15 : tie.Need-add-t15 Inv-loop μ-loop
-add-t15 c = let l = c .before .before .before .before .before .before .before .before .before .before .loop in let a = c .before .before .before .before .before .before .before .before .before .before .before .before .before .args in let s = a .bytes .now in
+add-t16 : tie.Need-add-t16 Inv-loop μ-loop
+add-t16 c = let l = c .before .before .before .before .before .before .before .before .before .before .before .loop in let a = c .before .before .before .before .before .before .before .before .before .before .before .before .before .before .args in let s = a .bytes .now in
     let g = c .before .before .before .before .before .starts-block .ensures (c .before .before .before .before .if3 .taken) in
-    let r = fill-run s (scalarsOf (reading s)) (a .out .now) (l .out) (l .at .0) (l .count) 16 (l .inv .3) (l .inv .4) (l .inv .2) (c .before .before .before .before .before .before .before .before .before .before .before .before .before .pre .1) (l .inv .1) (g .1) (g .0) in
+    let r = fill-run s (scalarsOf (reading s)) (a .out .now) (l .out) (l .at .0) (l .count) 16 (l .inv .3) (l .inv .4) (l .inv .2) (c .before .before .before .before .before .before .before .before .before .before .before .before .before .before .pre .1) (l .inv .1) (g .1) (g .0) in
     omega (arith, g .0)
 
 add-count : tie.Need-add-count Inv-loop μ-loop
-add-count c = let l = c .before .before .before .before .before .before .before .before .before .before .loop in let a = c .before .before .before .before .before .before .before .before .before .before .before .before .before .args in let s = a .bytes .now in
+add-count c = let l = c .before .before .before .before .before .before .before .before .before .before .before .loop in let a = c .before .before .before .before .before .before .before .before .before .before .before .before .before .before .args in let s = a .bytes .now in
     let g = c .before .before .before .before .before .starts-block .ensures (c .before .before .before .before .if3 .taken) in
-    let r = fill-run s (scalarsOf (reading s)) (a .out .now) (l .out) (l .at .0) (l .count) 16 (l .inv .3) (l .inv .4) (l .inv .2) (c .before .before .before .before .before .before .before .before .before .before .before .before .before .pre .1) (l .inv .1) (g .1) (g .0) in
-    omega (arith, r .0, l .inv .1, c .before .before .before .before .before .before .before .before .before .before .before .before .before .pre .1)
+    let r = fill-run s (scalarsOf (reading s)) (a .out .now) (l .out) (l .at .0) (l .count) 16 (l .inv .3) (l .inv .4) (l .inv .2) (c .before .before .before .before .before .before .before .before .before .before .before .before .before .before .pre .1) (l .inv .1) (g .1) (g .0) in
+    omega (arith, r .0, l .inv .1, c .before .before .before .before .before .before .before .before .before .before .before .before .before .before .pre .1)
 
 loop-less : tie.Need-loop-less Inv-loop μ-loop
-loop-less c = let l = c .before .before .before .before .before .before .before .before .before .before .loop in let a = c .before .before .before .before .before .before .before .before .before .before .before .before .before .args in let s = a .bytes .now in
+loop-less c = let l = c .before .before .before .before .before .before .before .before .before .before .before .loop in let a = c .before .before .before .before .before .before .before .before .before .before .before .before .before .before .args in let s = a .bytes .now in
     let g = c .before .before .before .before .before .starts-block .ensures (c .before .before .before .before .if3 .taken) in
-    let r = fill-run s (scalarsOf (reading s)) (a .out .now) (l .out) (l .at .0) (l .count) 16 (l .inv .3) (l .inv .4) (l .inv .2) (c .before .before .before .before .before .before .before .before .before .before .before .before .before .pre .1) (l .inv .1) (g .1) (g .0) in
+    let r = fill-run s (scalarsOf (reading s)) (a .out .now) (l .out) (l .at .0) (l .count) 16 (l .inv .3) (l .inv .4) (l .inv .2) (c .before .before .before .before .before .before .before .before .before .before .before .before .before .before .pre .1) (l .inv .1) (g .1) (g .0) in
     omega (arith, g .0)
 
 loop-again : tie.Need-loop-again Inv-loop μ-loop
-loop-again c = let l = c .before .before .before .before .before .before .before .before .before .before .loop in let a = c .before .before .before .before .before .before .before .before .before .before .before .before .before .args in let s = a .bytes .now in
+loop-again c = let l = c .before .before .before .before .before .before .before .before .before .before .before .loop in let a = c .before .before .before .before .before .before .before .before .before .before .before .before .before .before .args in let s = a .bytes .now in
     let g = c .before .before .before .before .before .starts-block .ensures (c .before .before .before .before .if3 .taken) in
-    let r = fill-run s (scalarsOf (reading s)) (a .out .now) (l .out) (l .at .0) (l .count) 16 (l .inv .3) (l .inv .4) (l .inv .2) (c .before .before .before .before .before .before .before .before .before .before .before .before .before .pre .1) (l .inv .1) (g .1) (g .0) in
+    let r = fill-run s (scalarsOf (reading s)) (a .out .now) (l .out) (l .at .0) (l .count) 16 (l .inv .3) (l .inv .4) (l .inv .2) (c .before .before .before .before .before .before .before .before .before .before .before .before .before .before .pre .1) (l .inv .1) (g .1) (g .0) in
     (g .0, omega arith, r .0, r .1, rw (c .before .before .widen-block .ensures) (r .2))
 
 wide-requires : tie.Need-wide-requires Inv-loop μ-loop
@@ -87,8 +89,8 @@ mul-out c = let t = ascii-turn c in omega arith
 slice-write-out : tie.Need-slice-write-out Inv-loop μ-loop
 slice-write-out c = let t = ascii-turn c in omega arith
 
-add-t17 : tie.Need-add-t17 Inv-loop μ-loop
-add-t17 c = let t = ascii-turn c in omega arith
+add-t18 : tie.Need-add-t18 Inv-loop μ-loop
+add-t18 c = let t = ascii-turn c in omega arith
 
 add-count-2 : tie.Need-add-count-2 Inv-loop μ-loop
 add-count-2 c = let t = ascii-turn c in omega arith
@@ -97,13 +99,13 @@ loop-less-2 : tie.Need-loop-less-2 Inv-loop μ-loop
 loop-less-2 c = let t = ascii-turn c in omega arith
 
 loop-again-2 : tie.Need-loop-again-2 Inv-loop μ-loop
-loop-again-2 c = let t = ascii-turn c in (t .0, simp length-set (c .before .before .before .before .before .before .before .loop .inv .1), omega arith, t .3, t .4)
+loop-again-2 c = let t = ascii-turn c in (t .0, simp length-set (c .before .before .before .before .before .before .before .before .loop .inv .1), omega arith, t .3, t .4)
 
 add-number-of-two : tie.Need-add-number-of-two Inv-loop μ-loop
 add-number-of-two c = search needs
 
 shared-slice-read-number-of-two : tie.Need-shared-slice-read-number-of-two Inv-loop μ-loop
-shared-slice-read-number-of-two c = let l = c .before .before .before .before .before .before .loop in let r = fill-two _ _ (l .at .0) (l .count) (l .inv .3) (c .before .before .before .before .if1 .taken) (c .before .before .if2 .left) (c .before .if4 .taken) .0 in omega arith
+shared-slice-read-number-of-two c = let l = c .before .before .before .before .before .before .before .loop in let r = fill-two _ _ (l .at .0) (l .count) (l .inv .3) (c .before .before .before .before .before .if1 .taken) _ (c .before .before .before .before .shared-slice-known2 .given (l .at .0) .fits) (c .before .before .before .leading-ones .ensures) (c .before .before .if2 .left) (c .before .if4 .taken) .0 in omega arith
 
 number-of-two-requires : tie.Need-number-of-two-requires Inv-loop μ-loop
 number-of-two-requires c κs = search needs
@@ -114,8 +116,8 @@ mul-out-2 c = let t = two-turn c in omega arith
 slice-write-out-2 : tie.Need-slice-write-out-2 Inv-loop μ-loop
 slice-write-out-2 c = let t = two-turn c in omega arith
 
-add-t21 : tie.Need-add-t21 Inv-loop μ-loop
-add-t21 c = let t = two-turn c in omega arith
+add-t22 : tie.Need-add-t22 Inv-loop μ-loop
+add-t22 c = let t = two-turn c in omega arith
 
 add-count-3 : tie.Need-add-count-3 Inv-loop μ-loop
 add-count-3 c = let t = two-turn c in omega arith
@@ -124,19 +126,19 @@ loop-less-3 : tie.Need-loop-less-3 Inv-loop μ-loop
 loop-less-3 c = let t = two-turn c in omega arith
 
 loop-again-3 : tie.Need-loop-again-3 Inv-loop μ-loop
-loop-again-3 c = let t = two-turn c in (t .0, simp length-set (c .before .before .before .before .before .before .before .loop .inv .1), omega arith, t .3, t .4)
+loop-again-3 c = let t = two-turn c in (t .0, simp length-set (c .before .before .before .before .before .before .before .before .loop .inv .1), omega arith, t .3, t .4)
 
 add-number-of-three : tie.Need-add-number-of-three Inv-loop μ-loop
 add-number-of-three c = search needs
 
 shared-slice-read-number-of-three : tie.Need-shared-slice-read-number-of-three Inv-loop μ-loop
-shared-slice-read-number-of-three c = let l = c .before .before .before .before .before .before .before .loop in let r = fill-three _ _ (l .at .0) (l .count) (l .inv .3) (c .before .before .before .before .before .if1 .taken) (c .before .before .if4 .left) (c .before .if5 .taken) .0 in omega arith
+shared-slice-read-number-of-three c = let l = c .before .before .before .before .before .before .before .before .loop in let r = fill-three _ _ (l .at .0) (l .count) (l .inv .3) (c .before .before .before .before .before .before .if1 .taken) _ (c .before .before .before .before .before .shared-slice-known2 .given (l .at .0) .fits) (c .before .before .before .before .leading-ones .ensures) (c .before .before .if4 .left) (c .before .if5 .taken) .0 in omega arith
 
 add-number-of-three-2 : tie.Need-add-number-of-three-2 Inv-loop μ-loop
-add-number-of-three-2 c = let l = c .before .before .before .before .before .before .before .loop in let r = fill-three _ _ (l .at .0) (l .count) (l .inv .3) (c .before .before .before .before .before .if1 .taken) (c .before .before .if4 .left) (c .before .if5 .taken) .0 in omega arith
+add-number-of-three-2 c = let l = c .before .before .before .before .before .before .before .before .loop in let r = fill-three _ _ (l .at .0) (l .count) (l .inv .3) (c .before .before .before .before .before .before .if1 .taken) _ (c .before .before .before .before .before .shared-slice-known2 .given (l .at .0) .fits) (c .before .before .before .before .leading-ones .ensures) (c .before .before .if4 .left) (c .before .if5 .taken) .0 in omega arith
 
 shared-slice-read-number-of-three-2 : tie.Need-shared-slice-read-number-of-three-2 Inv-loop μ-loop
-shared-slice-read-number-of-three-2 c = let l = c .before .before .before .before .before .before .before .before .loop in let r = fill-three _ _ (l .at .0) (l .count) (l .inv .3) (c .before .before .before .before .before .before .if1 .taken) (c .before .before .before .if4 .left) (c .before .before .if5 .taken) .0 in omega arith
+shared-slice-read-number-of-three-2 c = let l = c .before .before .before .before .before .before .before .before .before .loop in let r = fill-three _ _ (l .at .0) (l .count) (l .inv .3) (c .before .before .before .before .before .before .before .if1 .taken) _ (c .before .before .before .before .before .before .shared-slice-known2 .given (l .at .0) .fits) (c .before .before .before .before .before .leading-ones .ensures) (c .before .before .before .if4 .left) (c .before .before .if5 .taken) .0 in omega arith
 
 number-of-three-requires : tie.Need-number-of-three-requires Inv-loop μ-loop
 number-of-three-requires c κs = search needs
@@ -147,8 +149,8 @@ mul-out-3 c = let t = three-turn c in omega arith
 slice-write-out-3 : tie.Need-slice-write-out-3 Inv-loop μ-loop
 slice-write-out-3 c = let t = three-turn c in omega arith
 
-add-t28 : tie.Need-add-t28 Inv-loop μ-loop
-add-t28 c = let t = three-turn c in omega arith
+add-t29 : tie.Need-add-t29 Inv-loop μ-loop
+add-t29 c = let t = three-turn c in omega arith
 
 add-count-4 : tie.Need-add-count-4 Inv-loop μ-loop
 add-count-4 c = let t = three-turn c in omega arith
@@ -157,25 +159,25 @@ loop-less-4 : tie.Need-loop-less-4 Inv-loop μ-loop
 loop-less-4 c = let t = three-turn c in omega arith
 
 loop-again-4 : tie.Need-loop-again-4 Inv-loop μ-loop
-loop-again-4 c = let t = three-turn c in (t .0, simp length-set (c .before .before .before .before .before .before .before .before .before .loop .inv .1), omega arith, t .3, t .4)
+loop-again-4 c = let t = three-turn c in (t .0, simp length-set (c .before .before .before .before .before .before .before .before .before .before .loop .inv .1), omega arith, t .3, t .4)
 
 add-number-of-four : tie.Need-add-number-of-four Inv-loop μ-loop
 add-number-of-four c = search needs
 
 shared-slice-read-number-of-four : tie.Need-shared-slice-read-number-of-four Inv-loop μ-loop
-shared-slice-read-number-of-four c = let l = c .before .before .before .before .before .before .before .loop in let r = fill-four _ _ (l .at .0) (l .count) (l .inv .3) (c .before .before .before .before .before .if1 .taken) (c .before .if5 .left) .0 in omega arith
+shared-slice-read-number-of-four c = let l = c .before .before .before .before .before .before .before .before .loop in let r = fill-four _ _ (l .at .0) (l .count) (l .inv .3) (c .before .before .before .before .before .before .if1 .taken) _ (c .before .before .before .before .before .shared-slice-known2 .given (l .at .0) .fits) (c .before .before .before .before .leading-ones .ensures) (c .before .if5 .left) .0 in omega arith
 
 add-number-of-four-2 : tie.Need-add-number-of-four-2 Inv-loop μ-loop
-add-number-of-four-2 c = let l = c .before .before .before .before .before .before .before .loop in let r = fill-four _ _ (l .at .0) (l .count) (l .inv .3) (c .before .before .before .before .before .if1 .taken) (c .before .if5 .left) .0 in omega arith
+add-number-of-four-2 c = let l = c .before .before .before .before .before .before .before .before .loop in let r = fill-four _ _ (l .at .0) (l .count) (l .inv .3) (c .before .before .before .before .before .before .if1 .taken) _ (c .before .before .before .before .before .shared-slice-known2 .given (l .at .0) .fits) (c .before .before .before .before .leading-ones .ensures) (c .before .if5 .left) .0 in omega arith
 
 shared-slice-read-number-of-four-2 : tie.Need-shared-slice-read-number-of-four-2 Inv-loop μ-loop
-shared-slice-read-number-of-four-2 c = let l = c .before .before .before .before .before .before .before .before .loop in let r = fill-four _ _ (l .at .0) (l .count) (l .inv .3) (c .before .before .before .before .before .before .if1 .taken) (c .before .before .if5 .left) .0 in omega arith
+shared-slice-read-number-of-four-2 c = let l = c .before .before .before .before .before .before .before .before .before .loop in let r = fill-four _ _ (l .at .0) (l .count) (l .inv .3) (c .before .before .before .before .before .before .before .if1 .taken) _ (c .before .before .before .before .before .before .shared-slice-known2 .given (l .at .0) .fits) (c .before .before .before .before .before .leading-ones .ensures) (c .before .before .if5 .left) .0 in omega arith
 
 add-number-of-four-3 : tie.Need-add-number-of-four-3 Inv-loop μ-loop
-add-number-of-four-3 c = let l = c .before .before .before .before .before .before .before .before .loop in let r = fill-four _ _ (l .at .0) (l .count) (l .inv .3) (c .before .before .before .before .before .before .if1 .taken) (c .before .before .if5 .left) .0 in omega arith
+add-number-of-four-3 c = let l = c .before .before .before .before .before .before .before .before .before .loop in let r = fill-four _ _ (l .at .0) (l .count) (l .inv .3) (c .before .before .before .before .before .before .before .if1 .taken) _ (c .before .before .before .before .before .before .shared-slice-known2 .given (l .at .0) .fits) (c .before .before .before .before .before .leading-ones .ensures) (c .before .before .if5 .left) .0 in omega arith
 
 shared-slice-read-number-of-four-3 : tie.Need-shared-slice-read-number-of-four-3 Inv-loop μ-loop
-shared-slice-read-number-of-four-3 c = let l = c .before .before .before .before .before .before .before .before .before .loop in let r = fill-four _ _ (l .at .0) (l .count) (l .inv .3) (c .before .before .before .before .before .before .before .if1 .taken) (c .before .before .before .if5 .left) .0 in omega arith
+shared-slice-read-number-of-four-3 c = let l = c .before .before .before .before .before .before .before .before .before .before .loop in let r = fill-four _ _ (l .at .0) (l .count) (l .inv .3) (c .before .before .before .before .before .before .before .before .if1 .taken) _ (c .before .before .before .before .before .before .before .shared-slice-known2 .given (l .at .0) .fits) (c .before .before .before .before .before .before .leading-ones .ensures) (c .before .before .before .if5 .left) .0 in omega arith
 
 number-of-four-requires : tie.Need-number-of-four-requires Inv-loop μ-loop
 number-of-four-requires c κs = search needs
@@ -186,8 +188,8 @@ mul-out-4 c = let t = four-turn c in omega arith
 slice-write-out-4 : tie.Need-slice-write-out-4 Inv-loop μ-loop
 slice-write-out-4 c = let t = four-turn c in omega arith
 
-add-t37 : tie.Need-add-t37 Inv-loop μ-loop
-add-t37 c = let t = four-turn c in omega arith
+add-t38 : tie.Need-add-t38 Inv-loop μ-loop
+add-t38 c = let t = four-turn c in omega arith
 
 add-count-5 : tie.Need-add-count-5 Inv-loop μ-loop
 add-count-5 c = let t = four-turn c in omega arith
@@ -196,7 +198,7 @@ loop-less-5 : tie.Need-loop-less-5 Inv-loop μ-loop
 loop-less-5 c = let t = four-turn c in omega arith
 
 loop-again-5 : tie.Need-loop-again-5 Inv-loop μ-loop
-loop-again-5 c = let t = four-turn c in (t .0, simp length-set (c .before .before .before .before .before .before .before .before .before .before .loop .inv .1), omega arith, t .3, t .4)
+loop-again-5 c = let t = four-turn c in (t .0, simp length-set (c .before .before .before .before .before .before .before .before .before .before .before .loop .inv .1), omega arith, t .3, t .4)
 
 same-length : tie.Need-same-length Inv-loop μ-loop
 same-length c = search needs
@@ -212,16 +214,17 @@ fill-scalars-spec =
     μ-loop
     loop-holds
     shared-slice-read-lead
+    leading-ones-requires
     starts-block-requires
     widen-block-requires
-    add-t15
+    add-t16
     add-count
     loop-less
     loop-again
     wide-requires
     mul-out
     slice-write-out
-    add-t17
+    add-t18
     add-count-2
     loop-less-2
     loop-again-2
@@ -230,7 +233,7 @@ fill-scalars-spec =
     number-of-two-requires
     mul-out-2
     slice-write-out-2
-    add-t21
+    add-t22
     add-count-3
     loop-less-3
     loop-again-3
@@ -241,7 +244,7 @@ fill-scalars-spec =
     number-of-three-requires
     mul-out-3
     slice-write-out-3
-    add-t28
+    add-t29
     add-count-4
     loop-less-4
     loop-again-4
@@ -254,7 +257,7 @@ fill-scalars-spec =
     number-of-four-requires
     mul-out-4
     slice-write-out-4
-    add-t37
+    add-t38
     add-count-5
     loop-less-5
     loop-again-5
