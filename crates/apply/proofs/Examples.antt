@@ -7,6 +7,7 @@ use Rattle.edit.specs.Call.{undoable}
 use Rattle.edit.specs.Runs.{Run, stop, step, edits, stages}
 use Rattle.edit.specs.Demand3.{State, text, Beside, Undoable}
 use Rattle.edit.specs.Examples as edit
+use Rattle.edit.proofs.Undo.{alike}
 use Rattle.edit.proofs.Examples.{sample-run}
 use Rattle.view.specs.declared.CanUndo.the-variants.{Yes}
 use Rattle.apply.specs.Demand3.{UndoableCall}
@@ -20,32 +21,19 @@ made s w u i h =
     let c = calls-exist s w (h .0) in
     record { beside = h .0; said = Yes; promise = λ ox of os. sym (h .2); yes = refl; call = c; accepted = with-call c u i (h .1) }
 
-record Made {s w : State} (r : Run Undoable s w) : Type 0 where
-  run : Run UndoableCall s w
-  same-edits : edits run ≡ edits r
-  same-besides : besides run ≡ edit.besides r
-  same-stages : stages run ≡ stages r
-
-all-made : {s w : State} (r : Run Undoable s w) → Made r
-unfolding edits stages besides edit.besides made
-all-made stop = record { run = stop; same-edits = refl; same-besides = refl; same-stages = refl }
-all-made (step {s = s} {u = u} {e = w} {i = i} h r) =
-    let d = all-made r in
-    record {
-      run = step (made s w u i h) (d .run);
-      same-edits = ap {B = List (Whole ℕ)} (λ l. w ∷ l) (d .same-edits);
-      same-besides = ap {B = List Beside} (λ l. h .0 ∷ l) (d .same-besides);
-      same-stages = ap {B = List State} (λ l. s ∷ l) (d .same-stages);
-    }
+same-besides : {s w : State} (r : Run Undoable s w) → besides (alike UndoableCall made r .run) ≡ edit.besides r
+unfolding alike made besides edit.besides
+same-besides stop = refl
+same-besides (step h r) = ap {B = List Beside} (λ l. h .0 ∷ l) (same-besides r)
 
 pub sample-calls : SampleCalls
 sample-calls =
-    let d = all-made (sample-run .run) in
+    let d = alike UndoableCall made (sample-run .run) in
     record {
       last = sample-run .last;
       run = d .run;
       its-edits = d .same-edits ∙ sample-run .its-edits;
-      its-besides = d .same-besides ∙ sample-run .its-besides;
+      its-besides = same-besides (sample-run .run) ∙ sample-run .its-besides;
       its-texts = ap (map text) (d .same-stages) ∙ sample-run .its-texts;
       room = sample-run .room;
     }

@@ -1,5 +1,5 @@
 -- What the inverse of an edit holds: a payload no longer than the text, and lists of at most 256 items.
-use mathlib.Core.List.{List, [], flatten, map}
+use mathlib.Core.List.{List, []}
 use Prim.Native.Nat.{ℕ, suc, _≤_, min, max}
 use native.Mathlib.Omega.{arith}
 use lib.Dec.{T, leb→le}

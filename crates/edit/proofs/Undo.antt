@@ -82,7 +82,7 @@ module _ {S E : Type 0} where
       pub same-inverses : inverses run ≡ inverses r
       pub same-stages : stages run ≡ stages r
 
-    pub alike : ((s : S) (e : E) (u : S) (i : E) → Step s e u i → Other s e u i) → {s w : S} (r : Run Step s w) → Alike r
+    unfoldable pub alike : ((s : S) (e : E) (u : S) (i : E) → Step s e u i → Other s e u i) → {s w : S} (r : Run Step s w) → Alike r
     unfolding edits inverses stages
     alike f stop = record { run = stop; same-edits = refl; same-inverses = refl; same-stages = refl }
     alike f (step {s = s} {u = u} {e = e} {i = i} h r) =
