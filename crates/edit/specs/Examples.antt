@@ -78,8 +78,12 @@ pub record FurtherExamples : Type 0 where
   pub split-no-space : Gives abc (whole (SplitLines (rowAt 0)) [] (1 ∷ []) (1 ∷ [])) (97 ∷ 10 ∷ 98 ∷ 99 ∷ []) (plain (JoinLines (rowAt 0) 1 true) []) (at 0 0)
   -- "Flag no: the column is clamped to the row's length at that step", and a missing flag is no
   pub split-past : Gives abc (whole (SplitLines (rowAt 0)) [] (9 ∷ []) []) (97 ∷ 98 ∷ 99 ∷ 10 ∷ []) (plain (JoinLines (rowAt 0) 1 false) []) (at 0 0)
+  -- "columns taken last first", as they stand in their list
+  pub split-order : Gives abc (whole (SplitLines (rowAt 0)) [] (2 ∷ 1 ∷ []) []) (97 ∷ 10 ∷ 10 ∷ 98 ∷ 99 ∷ []) (plain (JoinLines (rowAt 0) 2 false) []) (at 0 0)
   -- "if any flag, surplus ones included, is yes"
   pub split-surplus : Gives abc (whole (SplitLines (rowAt 0)) [] (1 ∷ []) (0 ∷ 1 ∷ [])) (97 ∷ 10 ∷ 98 ∷ 99 ∷ []) (plain (JoinLines (rowAt 0) 1 true) []) (at 0 0)
+  -- "padded with spaces to the column if shorter"; "Inverse: DeleteBlockChunks with widths and pads"
+  pub block-padded : Gives (97 ∷ []) (whole (InsertBlock (at 0 2)) (88 ∷ []) (1 ∷ []) []) (97 ∷ 32 ∷ 88 ∷ []) (whole (DeleteBlockChunks (at 0 2)) [] (1 ∷ []) (1 ∷ [])) (at 0 2)
   -- "cut from column minus pad (not below 0) to column plus width": pad 1, pad 3, and none
   pub chunk-padded : Gives abcdRow (whole (DeleteBlockChunks (at 0 2)) [] (1 ∷ []) (1 ∷ [])) (97 ∷ 100 ∷ []) (whole (InsertBlock (at 0 2)) (99 ∷ []) (1 ∷ []) []) (at 0 2)
   pub chunk-all : Gives abcdRow (whole (DeleteBlockChunks (at 0 2)) [] (1 ∷ []) (3 ∷ [])) (100 ∷ []) (whole (InsertBlock (at 0 2)) (99 ∷ []) (1 ∷ []) []) (at 0 1)
@@ -122,6 +126,8 @@ pub record RuledOut : Type 0 where
   pub insert-in : Gives abc (plain (InsertStr (at 0 2)) (88 ∷ [])) (97 ∷ 98 ∷ 88 ∷ 99 ∷ []) (plain (DeleteRange (at 0 2) (at 0 3) Char) []) (at 0 3)
   -- the cursor of a cut at its end; one end taken for both
   pub cut : Gives abc (plain (DeleteRange (at 0 0) (at 0 2) Char) []) (99 ∷ []) (plain (InsertStr (at 0 0)) (97 ∷ 98 ∷ [])) (at 0 0)
+  -- what was cut put back in at the first end named, in order or not
+  pub cut-back : Gives abc (plain (DeleteRange (at 0 2) (at 0 0) Char) []) (99 ∷ []) (plain (InsertStr (at 0 0)) (97 ∷ 98 ∷ [])) (at 0 0)
   -- of two offsets that clamping put out of order, the second taken for the larger
   pub cut-crossed : Gives abc (plain (DeleteRange (at 0 2) (at 9 0) Char) []) abc (plain (InsertStr (at 0 2)) []) (at 0 2)
   -- the record of a cut judged to be as long as the text
@@ -143,7 +149,7 @@ pub record RuledOut : Type 0 where
       Gives (97 ∷ []) (whole (InsertBlock (at 0 0)) (88 ∷ 89 ∷ []) (1 ∷ 1 ∷ []) []) (88 ∷ 97 ∷ []) (whole (DeleteBlockChunks (at 0 0)) [] (1 ∷ 1 ∷ []) (0 ∷ 0 ∷ [])) (at 0 0)
   -- the cursor at the place as given
   pub block-past : Gives (97 ∷ []) (whole (InsertBlock (at 5 0)) (88 ∷ []) (1 ∷ []) []) (97 ∷ []) (whole (DeleteBlockChunks (at 5 0)) [] (1 ∷ []) (0 ∷ [])) (at 0 0)
-  -- the chunks put into the first rows of the text
+  -- the chunks put into the first rows of the text; the lists judged in each other's place
   pub block-below :
       Gives abcd (whole (InsertBlock (at 1 0)) (88 ∷ []) (1 ∷ []) []) (97 ∷ 98 ∷ 99 ∷ 10 ∷ 88 ∷ 100 ∷ []) (whole (DeleteBlockChunks (at 1 0)) [] (1 ∷ []) (0 ∷ [])) (at 1 0)
   -- the second row taken to start at the LF before it

@@ -133,7 +133,7 @@ pub fn delete_lines(
 {
     let used = view.used;
     let rows = line_cut(&text[0..used], start.row, end.row);
-    let at = rows.back;
+    let back = rows.back;
     let cut = rows.cut;
     let gone = cut.end.0 - cut.start.0;
     let left = used - gone;
@@ -146,7 +146,7 @@ pub fn delete_lines(
     let cursor = Position { row, col: Col(0) };
     Answer::Done(Applied {
         view: next_view(view, left, cursor),
-        inverse: Edit::InsertStr { at },
+        inverse: Edit::InsertStr { at: back },
         payload: gone,
         first: 0,
         second: 0,

@@ -10,7 +10,7 @@ use Rattle.edit.specs.Call.{outcome}
 use Rattle.framed.specs.Calls.{lineApplied}
 
 pub record RuledOut : Type 0 where
-  -- a mark refused by another number than a malformed line
+  -- a mark taken for an edit that changes nothing
   pub a-mark :
       lineApplied (record { used = 1; cursor = at 0 0; changes = 0 }) (hexed (0x02 ∷ replicate 16 0)) (0x61 ∷ 7 ∷ []) (9 ∷ []) (9 ∷ []) (9 ∷ [])
       ≡ outcome (refused 10 0) (0x61 ∷ 7 ∷ []) (9 ∷ []) (9 ∷ []) (9 ∷ [])

@@ -10,4 +10,4 @@ use Rattle.place.specs.Examples.{RuledOut}
 
 pub ruled-out : RuledOut
 unfolding before blockForm blockOf chunksForm columnsIn deleteForm flagged flagsIn formBy headOf insertForm joinForm kindForm lineForm markForm padsIn replaceForm splitForm stringsFrom widthsIn items numberIn digitOf hexed isDigit paired unhexed valueOf placed seen clamp inText lastRow lines onto rowCount rowLen all
-ruled-out = record { head = refl; after-edit = refl; uncounted = refl; sound = refl; edited = refl; longest-short = refl }
+ruled-out = record { head = refl; after-edit = refl; second-edit = refl; uncounted = refl; sound = refl; edited = refl; longest-short = refl }

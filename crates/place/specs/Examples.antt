@@ -21,6 +21,8 @@ pub record RuledOut : Type 0 where
   pub head : placed fresh (0x61 ∷ []) (mark (sel (at 0 0) (at 0 2))) ≡ malformed
   -- a mark kept after an edit, while there are fewer than 64
   pub after-edit : placed (record { sound = true; marks = 0; edited = true }) (0x61 ∷ []) (mark (sel (at 0 0) (at 0 1))) ≡ malformed
+  -- an edit after the first not in its place
+  pub second-edit : placed (record { sound = true; marks = 0; edited = true }) [] (plain (InsertStr (at 0 0))) ≡ plain (InsertStr (at 0 0))
   -- a malformed line that counts as a sound one
   pub uncounted : seen fresh malformed ≡ fresh
   -- no line that counts as a sound one; an edit that is not seen

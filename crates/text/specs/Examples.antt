@@ -6,7 +6,7 @@ use mathlib.Core.List.{List, [], _∷_, _++_}
 use Prim.Native.Nat.{ℕ}
 use lib.ListN.{replicate}
 use Rattle.text.specs.Rows.{at, charAt, upto, earlier, later, rowCount, lastRow, rowLen, rowStart, span, clamp, offset, inText}
-use Rattle.text.specs.Text.{isLF, allAdmissible}
+use Rattle.text.specs.Text.{isLF, allAdmissible, textOk}
 
 -- "ab/cd"
 abbrev pub abcd : List ℕ
@@ -15,6 +15,8 @@ abcd = 97 ∷ 98 ∷ 10 ∷ 99 ∷ 100 ∷ []
 pub record RuledOut : Type 0 where
   -- a text admitted by its last character
   pub admitted : allAdmissible (13 ∷ 97 ∷ []) ≡ false
+  -- a used length past the buffer admitted
+  pub past-buffer : textOk (97 ∷ []) 2 ≡ false
   -- a position that does not stand up to itself; the later of two given for the earlier, and the earlier for the later
   pub itself : upto (at 1 2) (at 1 2) ≡ true
   pub first : earlier (at 0 5) (at 1 0) ≡ at 0 5
