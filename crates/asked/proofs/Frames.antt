@@ -10,7 +10,7 @@ use lib.Dec.{leb}
 use lib.ListN.{length}
 use Rattle.promise.specs.Paper.{Paper, done, refused}
 use Rattle.promise.specs.Slices.{over}
-use Rattle.utf8.specs.Calls.{Outcome, outcome, stored}
+use Rattle.utf8.specs.Calls.{outcome, stored}
 use Rattle.edit.specs.declared.Edit.{Edit}
 use Rattle.frame.specs.declared.Head.{Head}
 use Rattle.frame.specs.declared.Head.the-variants as asHead

@@ -1,5 +1,4 @@
 -- The proofs of specs/Theorems.antt.
-use mathlib.Core.List.{List}
 use mathlib.Core.Path.{_≡_, refl, ap}
 use Prim.Native.Nat.{ℕ}
 use Rattle.promise.specs.Paper.{Paper, done, refused}

@@ -1,7 +1,7 @@
 -- What rules out wrong readers of one frame: each line is what the promise asks for at one line of a script, read into slices full of 9, and above
 -- it stands the program that leaves something else there.
 use mathlib.Core.Path.{_≡_}
-use mathlib.Core.List.{List, [], _∷_, _++_}
+use mathlib.Core.List.{[], _∷_, _++_}
 use lib.ListN.{replicate}
 use Rattle.promise.specs.Paper.{done, refused}
 use Rattle.utf8.specs.Calls.{outcome}
