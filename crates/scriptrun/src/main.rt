@@ -117,9 +117,10 @@ fn take_read(
     take_bytes(stand, &input[0..count], line, text, marks, out)
 }
 
-// One read, and what comes of it.
+// One read into `input`, and what comes of it.
 fn read_some(
     stand: Stand,
+    input: &mut [u8],
     line: &mut [u8],
     text: &mut [u32],
     marks: &mut [u32],
@@ -130,14 +131,14 @@ fn read_some(
     ensures { λ r. ⌜ Ready (r .script) (now (text .exit)) (now (marks .exit)) × (r .pending ≤ 36_865) ⌝ }
     ensures { λ r. ⌜ Come (stateOf (r .script) (now (text .exit)) (now (marks .exit))) (take (r .pending) (now (line .exit))) ⌝ }
 {
-    let mut input = io::large_buffer();
-    let got = libc::read(STDIN_FILENO, &mut input);
-    take_read(stand, got, &input, line, text, marks, out)
+    let got = libc::read(STDIN_FILENO, input);
+    take_read(stand, got, input, line, text, marks, out)
 }
 
 // All of the input. A proved loop has to end, so it counts its turns down from a number that no input uses up.
 fn read_all(
     stand: Stand,
+    input: &mut [u8],
     line: &mut [u8],
     text: &mut [u32],
     marks: &mut [u32],
@@ -154,14 +155,14 @@ fn read_all(
         if !read.open {
             return read;
         }
-        read = read_some(read, line, text, marks, out);
+        read = read_some(read, input, line, text, marks, out);
         turns -= 1;
     }
     read
 }
 
 // The script from its opening to its ending.
-fn run(line: &mut [u8], text: &mut [u32], marks: &mut [u32], out: &mut [u8])
+fn run(input: &mut [u8], line: &mut [u8], text: &mut [u32], marks: &mut [u32], out: &mut [u8])
     requires { ⌜ Ready (scriptOf start) (now text) (now marks) × (stateOf (scriptOf start) (now text) (now marks) ≡ start) × (36_865 ≤ length (now line)) × (39_110 ≤ length (now out)) ⌝ }
 {
     let first = Stand {
@@ -170,7 +171,7 @@ fn run(line: &mut [u8], text: &mut [u32], marks: &mut [u32], out: &mut [u8])
         open: true,
         sound: true,
     };
-    let last = read_all(first, line, text, marks, out);
+    let last = read_all(first, input, line, text, marks, out);
     let script = last.script;
     let sound = last.sound;
     let size = close(script, last.pending, text, marks, out);
@@ -178,9 +179,10 @@ fn run(line: &mut [u8], text: &mut [u32], marks: &mut [u32], out: &mut [u8])
 }
 
 fn main() {
+    let mut input = io::large_buffer();
     let mut line = [0u8; HELD_ROOM];
     let mut text = [0u32; TEXT_ROOM];
     let mut marks = [0u32; MARK_ROOM];
     let mut out = [0u8; 131_072];
-    run(&mut line, &mut text, &mut marks, &mut out);
+    run(&mut input, &mut line, &mut text, &mut marks, &mut out);
 }

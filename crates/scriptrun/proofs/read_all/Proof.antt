@@ -10,14 +10,14 @@ use Rattle.scriptrun.proofs.read_all.Statement.{statement}
 use Rattle.scriptrun.proofs.read_all.Tie as tie
 
 abbrev Inv-loop : tie.InvT-loop
-Inv-loop line₀ text₀ marks₀ out₀ read₀ turns₀ line text marks out read turns =
-    (length line ≡ length line₀) × (length text ≡ length text₀) × (length marks ≡ length marks₀) × (length out ≡ length out₀) × Ready (read .script) text marks × (read .pending ≤ 36_865) × Come (stateOf (read .script) text marks) (take (read .pending) line)
+Inv-loop input₀ line₀ text₀ marks₀ out₀ read₀ turns₀ input line text marks out read turns =
+    (length input ≡ length input₀) × (length line ≡ length line₀) × (length text ≡ length text₀) × (length marks ≡ length marks₀) × (length out ≡ length out₀) × Ready (read .script) text marks × (read .pending ≤ 36_865) × Come (stateOf (read .script) text marks) (take (read .pending) line)
 
 abbrev μ-loop : tie.MeasureT-loop
-μ-loop line₀ text₀ marks₀ out₀ read₀ turns₀ line text marks out read turns = turns
+μ-loop input₀ line₀ text₀ marks₀ out₀ read₀ turns₀ input line text marks out read turns = turns
 
 loop-holds : tie.Need-loop-holds Inv-loop μ-loop
-loop-holds c = let p = c .before .before .before .before .pre in (refl, refl, refl, refl, p .0 .0, p .0 .1, p .1)
+loop-holds c = let p = c .before .before .before .before .before .pre in (refl, refl, refl, refl, refl, p .0 .0, p .0 .1, p .1)
 
 same-length : tie.Need-same-length Inv-loop μ-loop
 same-length c = search needs
@@ -31,11 +31,14 @@ same-length-3 c = search needs
 same-length-4 : tie.Need-same-length-4 Inv-loop μ-loop
 same-length-4 c = search needs
 
+same-length-5 : tie.Need-same-length-5 Inv-loop μ-loop
+same-length-5 c = search needs
+
 returns : tie.Need-returns Inv-loop μ-loop
-returns c = let v = c .before .before .before .loop .inv in ((v .4, v .5), v .6)
+returns c = let v = c .before .before .before .loop .inv in ((v .5, v .6), v .7)
 
 read-some-requires : tie.Need-read-some-requires Inv-loop μ-loop
-read-some-requires c κs = let v = c .before .before .before .before .before .before .before .loop .inv in let p = c .before .before .before .before .before .before .before .before .before .before .before .before .pre in ((v .4, v .5, omega (arith, v .0, p .0 .2), omega (arith, v .3, p .0 .3)), v .6)
+read-some-requires c κs = let v = c .before .before .before .before .before .before .before .before .loop .inv in let p = c .before .before .before .before .before .before .before .before .before .before .before .before .before .before .pre in ((v .5, v .6, omega (arith, v .1, p .0 .2), omega (arith, v .4, p .0 .3)), v .7)
 
 sub-turns : tie.Need-sub-turns Inv-loop μ-loop
 sub-turns c = search needs
@@ -44,10 +47,7 @@ loop-less : tie.Need-loop-less Inv-loop μ-loop
 loop-less c = search needs
 
 loop-again : tie.Need-loop-again Inv-loop μ-loop
-loop-again c = let v = c .before .before .before .before .before .before .before .before .before .before .before .before .before .before .before .before .loop .inv in let t = c .before .before .before .before .before .before .before .before .read-some .ensures in (c .before .before .before .before .before .before .before .line .given ∙ v .0, c .before .before .before .before .before .text .given ∙ v .1, c .before .before .before .marks .given ∙ v .2, c .before .out .given ∙ v .3, t .0 .0, t .0 .1, t .1)
-
-same-length-5 : tie.Need-same-length-5 Inv-loop μ-loop
-same-length-5 c = search needs
+loop-again c = let v = c .before .before .before .before .before .before .before .before .before .before .before .before .before .before .before .before .before .before .before .loop .inv in let t = c .before .before .before .before .before .before .before .before .before .before .read-some .ensures in (c .before .before .before .before .before .before .before .before .before .input .given ∙ v .0, c .before .before .before .before .before .before .before .line .given ∙ v .1, c .before .before .before .before .before .text .given ∙ v .2, c .before .before .before .marks .given ∙ v .3, c .before .out .given ∙ v .4, t .0 .0, t .0 .1, t .1)
 
 same-length-6 : tie.Need-same-length-6 Inv-loop μ-loop
 same-length-6 c = search needs
@@ -58,8 +58,14 @@ same-length-7 c = search needs
 same-length-8 : tie.Need-same-length-8 Inv-loop μ-loop
 same-length-8 c = search needs
 
+same-length-9 : tie.Need-same-length-9 Inv-loop μ-loop
+same-length-9 c = search needs
+
+same-length-10 : tie.Need-same-length-10 Inv-loop μ-loop
+same-length-10 c = search needs
+
 returns-2 : tie.Need-returns-2 Inv-loop μ-loop
-returns-2 c = let v = c .before .loop .inv in ((v .4, v .5), v .6)
+returns-2 c = let v = c .before .loop .inv in ((v .5, v .6), v .7)
 
 pub read-all-spec : {M : Type 1} → statement M
 read-all-spec =
@@ -72,13 +78,15 @@ read-all-spec =
     same-length-2
     same-length-3
     same-length-4
+    same-length-5
     returns
     read-some-requires
     sub-turns
     loop-less
     loop-again
-    same-length-5
     same-length-6
     same-length-7
     same-length-8
+    same-length-9
+    same-length-10
     returns-2)

@@ -3,20 +3,11 @@ use Rattle.scriptrun.proofs.Bytes.{come-on}
 use Rattle.scriptrun.proofs.read_some.Statement.{statement}
 use Rattle.scriptrun.proofs.read_some.Tie as tie
 
-large-buffer-requires : tie.Need-large-buffer-requires
-large-buffer-requires c κs = search needs
-
-slice-aggregate-read : tie.Need-slice-aggregate-read
-slice-aggregate-read c = search needs
-
 read-requires : tie.Need-read-requires
 read-requires c κs = search needs
 
-slice-aggregate-take-read : tie.Need-slice-aggregate-take-read
-slice-aggregate-take-read c = search needs
-
 take-read-requires : tie.Need-take-read-requires
-take-read-requires c κs = c .before .before .before .before .before .before .before .before .before .before .before .before .before .pre
+take-read-requires c κs = c .before .before .before .before .before .before .before .before .before .before .before .before .before .before .pre
 
 same-length : tie.Need-same-length
 same-length c = search needs
@@ -30,20 +21,21 @@ same-length-3 c = search needs
 same-length-4 : tie.Need-same-length-4
 same-length-4 c = search needs
 
+same-length-5 : tie.Need-same-length-5
+same-length-5 c = search needs
+
 returns : tie.Need-returns
-returns c = let t = c .before .before .before .before .before .before .before .before .take-read in (t .ensures .0, come-on _ _ _ _ _ (c .before .before .before .before .before .before .before .before .before .before .before .before .before .before .before .before .before .before .before .before .before .before .pre .1) (t .ensures .1))
+returns c = let t = c .before .before .before .before .before .before .before .before .take-read in (t .ensures .0, come-on _ _ _ _ _ (c .before .before .before .before .before .before .before .before .before .before .before .before .before .before .before .before .before .before .before .before .before .before .before .pre .1) (t .ensures .1))
 
 pub read-some-spec : {M : Type 1} → statement M
 read-some-spec =
     tie.close
     (tie.spec
-    large-buffer-requires
-    slice-aggregate-read
     read-requires
-    slice-aggregate-take-read
     take-read-requires
     same-length
     same-length-2
     same-length-3
     same-length-4
+    same-length-5
     returns)
