@@ -2,21 +2,14 @@
 # Runs scriptrun where reads or writes fail, or take a part, or are not possible yet: what it prints, and its one line on standard error or none, are
 # compared byte for byte. Its last line says how many passed.
 set -euo pipefail
+unset POSIXLY_CORRECT # the file size limit below is in units of 1,024 bytes
 cd "$(dirname "${BASH_SOURCE[0]}")/.."
 source tests/emulator.sh
-run=("${emulated[@]}" target/bin/scriptrun)
+run=(timeout 120 "${emulated[@]}" target/bin/scriptrun) # one that does not end fails
 passed=0
 
 dir=$(mktemp -d)
 trap 'rm -rf "$dir"' EXIT
-
-# a script of 20,000 insertions, and what it prints to a file: more than a pipe holds
-many() {
-    echo 0161
-    awk 'BEGIN { for (i = 0; i < 20000; i++) printf "1000000000%08x62\n", i % 4000 }'
-}
-many > "$dir/many"
-"${run[@]}" < "$dir/many" > "$dir/all"
 
 expect() { # NAME, FILE that was to be printed, LINE that was to be on standard error, if any; both came to $dir/out and $dir/err
     printf '%s' "${3:+$3$'\n'}" > "$dir/line"
@@ -27,6 +20,26 @@ expect() { # NAME, FILE that was to be printed, LINE that was to be on standard 
     passed=$((passed + 1))
 }
 
+# a script of 20,000 insertions, which prints more than a pipe or the program's own array holds: 4,095 have room, and those behind the first 4,000 go in
+# among the ones before
+many() {
+    echo 0161
+    awk 'BEGIN { for (i = 0; i < 20000; i++) printf "1000000000%08x62\n", i % 4000 }'
+}
+many_out() {
+    awk 'BEGIN {
+        for (i = 0; i < 4095; i++) printf "00110000000000%08x00000000%08x\n", i % 4000, i % 4000 + 1
+        for (i = 4095; i < 20000; i++) print "08"
+        printf "01"
+        for (i = 0; i < 4095; i++) printf "62"
+        print "61"
+    }'
+}
+many > "$dir/many"
+many_out > "$dir/all"
+"${run[@]}" < "$dir/many" > "$dir/out" 2> "$dir/err"
+expect "a file" "$dir/all"
+
 : > "$dir/nothing"
 head -c 1024 "$dir/all" > "$dir/front"
 
@@ -35,6 +48,10 @@ head -c 1024 "$dir/all" > "$dir/front"
 : > "$dir/out"
 "${run[@]}" < "$dir/many" > /dev/full 2> "$dir/err"
 expect "a full device" "$dir/nothing" "scriptrun: standard output: No space left on device"
+
+: > "$dir/out"
+python3 tests/failures.py open-input "$dir/many" "${run[@]}" > /dev/full 2> "$dir/err"
+expect "a full device, and an input that stays open" "$dir/nothing" "scriptrun: standard output: No space left on device"
 
 "${run[@]}" < "$dir/many" >&- 2> "$dir/err"
 expect "output closed" "$dir/nothing" "scriptrun: standard output: Bad file descriptor"

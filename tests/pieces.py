@@ -7,8 +7,10 @@ import socket
 import subprocess
 import sys
 import tempfile
+import threading
 
 SIZES = (1, 7, 65_536)
+LIMIT = 120  # seconds; a program that takes longer is killed, and its status tells
 
 
 def word(text):
@@ -42,11 +44,14 @@ def run(program, script, size):
     ours, theirs = socket.socketpair(socket.AF_UNIX, socket.SOCK_SEQPACKET)
     with tempfile.TemporaryFile() as out, tempfile.TemporaryFile() as err:
         running = subprocess.Popen(program, stdin=theirs, stdout=out, stderr=err)
+        watch = threading.Timer(LIMIT, running.kill)
+        watch.start()
         theirs.close()
         for at in range(0, len(script), size):
             ours.send(script[at:at + size])
         ours.close()
         status = running.wait()
+        watch.cancel()
         out.seek(0)
         err.seek(0)
         return status, out.read(), err.read()

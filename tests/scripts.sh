@@ -33,9 +33,11 @@ for script in examples/*.script; do
     same "$script" <"${script%.script}.out"
 done
 
-# the input in pieces of one byte
-run "pieces" < <(awk 'BEGIN { RS = "^$" } { n = length($0); for (i = 1; i <= n; i++) { printf "%s", substr($0, i, 1); fflush() } }' examples/menu.script)
-same "pieces" <examples/menu.out
+# a last line without LF is malformed, and changes nothing
+run "no LF" < <(printf '0161\n0162')
+same "no LF" <<<$'0a\n0161'
+run "no LF alone" < <(printf 0161)
+same "no LF alone" <<<$'0a\n01'
 
 # A block of 36,864 digits, as many as a line may have, below the last row of the text: its one chunk has 6,140 characters, and goes nowhere.
 longest() {
@@ -78,8 +80,8 @@ far() {
     echo 10000000000000000062
 }
 run "dropped" < <(far)
-tail -n 2 "$room/out" | sed 's/^01.*/01/' >"$room/end"
-mv "$room/end" "$room/out"
-same "dropped" <<<$'01\n03'
+sed -e 's/^00.*/00/' -e 's/^01.*/01/' "$room/out" >"$room/short"
+mv "$room/short" "$room/out"
+same "dropped" < <(repeat '00\n' 65; echo 01; echo 03)
 
 echo "$passed passed, 0 failed"

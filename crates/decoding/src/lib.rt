@@ -107,7 +107,8 @@ pub fn count_scalars(bytes: &[u8]) -> ScalarCount
 }
 
 // The scalars of well-formed bytes, to the front of a slice that has room for them. The lead's leading one bits alone tell how many
-// octets stand there: none for one, and else as many as they are. (They are asked for by order: a chain of equalities is slower.)
+// octets stand there: none for one, and else as many as they are. A single one leads no sequence and does not come, so that at most one
+// is none. (They are asked for by order: a chain of equalities is slower.)
 fn fill_scalars(bytes: &[u8], out: &mut [u32])
     requires { ⌜ fillable (reading (now bytes)) (length (now out)) ⌝ }
     ensures { λ _. ⌜ now (out .exit) ≡ over (scalarsOf (reading (now (bytes .entry)))) (now (out .entry)) ⌝ }

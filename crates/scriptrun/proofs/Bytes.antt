@@ -59,6 +59,9 @@ come-first c t m e q = record { bytes = []; stands = (ap (λ (x : Script). state
 pub come-on : (s s′ : State) (p p′ bs : List ℕ) → Come s p → Stands s′ p′ (fedBy s p bs) → Come s′ p′
 come-on s s′ p p′ bs g q = record { bytes = g .bytes ++ bs; stands = stands-on opening s s′ [] p p′ (g .bytes) bs (g .stands) q }
 
+pub come-still : (c c′ : Script) (k k′ : ℕ) (l t m : List ℕ) → c′ ≡ c → k′ ≡ k → Come (stateOf c t m) (take k l) → Come (stateOf c′ t m) (take k′ l)
+come-still c c′ k k′ l t m e q h = rw (e, q) h
+
 -- ---- what is written
 
 -- what a call of the feeder printed to the front of o

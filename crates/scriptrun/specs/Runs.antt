@@ -1,5 +1,5 @@
--- How far the program has come. What is read and written no contract can say; these say that whatever is read is fed, from the opening on, and that only
--- what that prints is written.
+-- How far the program has come. What is read and written no contract can say; these say that whatever is read is fed, from the opening on, and that
+-- what is written is something that a script prints.
 use mathlib.Core.Path.{_≡_}
 use mathlib.Core.List.{List, []}
 use Prim.Native.Nat.{ℕ}

@@ -12,13 +12,15 @@ use loading::Script;
 use step::MARK_ROOM;
 use step::TEXT_ROOM;
 use step::opening;
+ghost use mathlib.Core.Bool.{false};
 ghost use mathlib.Core.Path.{_≡_};
 ghost use Prim.Native.Nat.{_≤_};
 ghost use lib.ListN.{length, take};
+ghost use Rattle.promise.specs.Slices.{over};
 ghost use Rattle.io.specs.Counts.{clamped};
 ghost use Rattle.loading.specs.States.{stateOf, scriptOf, opening as start};
 ghost use Rattle.step.specs.Calls.{Ready};
-ghost use Rattle.feed.specs.Feeds.{fedBy};
+ghost use Rattle.feed.specs.Feeds.{fedBy, closing};
 ghost use Rattle.scriptrun.specs.Runs.{Come, Stands};
 
 // The script, how much of a line is held, whether more of the input is to be read, and whether nothing has failed.
@@ -63,6 +65,20 @@ fn take_bytes(
     }
 }
 
+// The input cannot be read to its end.
+fn fail_reading(stand: Stand) -> Stand
+    ensures { λ r. ⌜ (r .script ≡ stand .script) × (r .pending ≡ stand .pending) × (r .open ≡ false) ⌝ }
+{
+    os::fail(b"scriptrun: standard input");
+    let script = stand.script;
+    Stand {
+        script,
+        pending: stand.pending,
+        open: false,
+        sound: false,
+    }
+}
+
 // Where a read brought nothing: the input has ended, or the read is to be made again, or it failed.
 fn take_nothing(stand: Stand, got: isize) -> Stand
     ensures { λ r. ⌜ (r .script ≡ stand .script) × (r .pending ≡ stand .pending) ⌝ }
@@ -86,13 +102,7 @@ fn take_nothing(stand: Stand, got: isize) -> Stand
             sound,
         };
     }
-    os::fail(b"scriptrun: standard input");
-    Stand {
-        script,
-        pending,
-        open: false,
-        sound: false,
-    }
+    fail_reading(stand)
 }
 
 // What a read answered and put in front of `input`: every byte of it is fed, and no other.
@@ -148,6 +158,7 @@ fn read_all(
     requires { ⌜ Come (stateOf (stand .script) (now text) (now marks)) (take (stand .pending) (now line)) ⌝ }
     ensures { λ r. ⌜ Ready (r .script) (now (text .exit)) (now (marks .exit)) × (r .pending ≤ 36_865) ⌝ }
     ensures { λ r. ⌜ Come (stateOf (r .script) (now (text .exit)) (now (marks .exit))) (take (r .pending) (now (line .exit))) ⌝ }
+    ensures { λ r. ⌜ r .open ≡ false ⌝ }
 {
     let mut read = stand;
     let mut turns = u64::MAX;
@@ -158,7 +169,17 @@ fn read_all(
         read = read_some(read, input, line, text, marks, out);
         turns -= 1;
     }
-    read
+    fail_reading(read)
+}
+
+// What is printed at the end of the input.
+fn end(stand: Stand, text: &[u32], marks: &[u32], out: &mut [u8]) -> usize
+    requires { ⌜ Ready (stand .script) (now text) (now marks) × (39_110 ≤ length (now out)) ⌝ }
+    ensures { λ r. ⌜ (now (out .exit) ≡ over (closing (stateOf (stand .script) (now (text .entry)) (now (marks .entry))) (stand .pending)) (now (out .entry))) × (r ≡ length (closing (stateOf (stand .script) (now (text .entry)) (now (marks .entry))) (stand .pending))) × (r ≤ 39_110) ⌝ }
+{
+    let script = stand.script;
+    let pending = stand.pending;
+    close(script, pending, text, marks, out)
 }
 
 // The script from its opening to its ending.
@@ -172,10 +193,8 @@ fn run(input: &mut [u8], line: &mut [u8], text: &mut [u32], marks: &mut [u32], o
         sound: true,
     };
     let last = read_all(first, input, line, text, marks, out);
-    let script = last.script;
-    let sound = last.sound;
-    let size = close(script, last.pending, text, marks, out);
-    print(&out[0..size], sound);
+    let size = end(last, text, marks, out);
+    print(&out[0..size], last.sound);
 }
 
 fn main() {

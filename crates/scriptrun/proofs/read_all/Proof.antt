@@ -1,4 +1,5 @@
-use mathlib.Core.Path.{_≡_, refl, _∙_}
+use mathlib.Core.Path.{_≡_, refl, sym, _∙_}
+use mathlib.Core.Bool.{Bool, true, false, not}
 use Prim.Native.Nat.{_≤_}
 use native.Mathlib.Omega.{arith}
 use borrow.Author.Needs.{needs}
@@ -6,8 +7,13 @@ use lib.ListN.{length, take}
 use Rattle.loading.specs.States.{stateOf}
 use Rattle.step.specs.Calls.{Ready}
 use Rattle.scriptrun.specs.Runs.{Come}
+use Rattle.scriptrun.proofs.Bytes.{ready-as, come-still}
 use Rattle.scriptrun.proofs.read_all.Statement.{statement}
 use Rattle.scriptrun.proofs.read_all.Tie as tie
+
+not-true : (b : Bool) → not b ≡ true → b ≡ false
+not-true true e = sym e
+not-true false e = refl
 
 abbrev Inv-loop : tie.InvT-loop
 Inv-loop input₀ line₀ text₀ marks₀ out₀ read₀ turns₀ input line text marks out read turns =
@@ -35,7 +41,7 @@ same-length-5 : tie.Need-same-length-5 Inv-loop μ-loop
 same-length-5 c = search needs
 
 returns : tie.Need-returns Inv-loop μ-loop
-returns c = let v = c .before .before .before .loop .inv in ((v .5, v .6), v .7)
+returns c = let l = c .before .before .before .loop in let v = l .inv in ((v .5, v .6), (v .7, not-true (l .read .«open») (c .if1 .taken)))
 
 read-some-requires : tie.Need-read-some-requires Inv-loop μ-loop
 read-some-requires c κs = let v = c .before .before .before .before .before .before .before .before .loop .inv in let p = c .before .before .before .before .before .before .before .before .before .before .before .before .before .before .pre in ((v .5, v .6, omega (arith, v .1, p .0 .2), omega (arith, v .4, p .0 .3)), v .7)
@@ -48,6 +54,9 @@ loop-less c = search needs
 
 loop-again : tie.Need-loop-again Inv-loop μ-loop
 loop-again c = let v = c .before .before .before .before .before .before .before .before .before .before .before .before .before .before .before .before .before .before .before .loop .inv in let t = c .before .before .before .before .before .before .before .before .before .before .read-some .ensures in (c .before .before .before .before .before .before .before .before .before .input .given ∙ v .0, c .before .before .before .before .before .before .before .line .given ∙ v .1, c .before .before .before .before .before .text .given ∙ v .2, c .before .before .before .marks .given ∙ v .3, c .before .out .given ∙ v .4, t .0 .0, t .0 .1, t .1)
+
+fail-reading-requires : tie.Need-fail-reading-requires Inv-loop μ-loop
+fail-reading-requires c κs = search needs
 
 same-length-6 : tie.Need-same-length-6 Inv-loop μ-loop
 same-length-6 c = search needs
@@ -65,7 +74,10 @@ same-length-10 : tie.Need-same-length-10 Inv-loop μ-loop
 same-length-10 c = search needs
 
 returns-2 : tie.Need-returns-2 Inv-loop μ-loop
-returns-2 c = let v = c .before .loop .inv in ((v .5, v .6), v .7)
+returns-2 c = let l = c .before .before .loop in let v = l .inv in let f = c .fail-reading in let e = f .ensures in (
+  (ready-as (l .read .script) (f .result .script) (l .text) (l .marks) (e .0) (v .5), omega (arith, e .1, v .6)),
+  (come-still (l .read .script) (f .result .script) (l .read .pending) (f .result .pending) (l .line) (l .text) (l .marks) (e .0) (e .1) (v .7), e .2),
+)
 
 pub read-all-spec : {M : Type 1} → statement M
 read-all-spec =
@@ -84,6 +96,7 @@ read-all-spec =
     sub-turns
     loop-less
     loop-again
+    fail-reading-requires
     same-length-6
     same-length-7
     same-length-8

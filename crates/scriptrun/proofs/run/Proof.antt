@@ -11,8 +11,8 @@ opening-requires c κs = search needs
 read-all-requires : tie.Need-read-all-requires
 read-all-requires c κs = let o = c .before .before .before .before .before .opening in let a = c .before .before .before .before .before .before .before .before .before .before .before .args in let p = c .before .before .before .before .before .before .before .before .before .before .before .pre in ((ready-as (scriptOf opening) (o .result) (a .text .now) (a .marks .now) (o .ensures) (p .0), omega arith, p .2, omega (arith, p .3)), come-first (o .result) (a .text .now) (a .marks .now) (o .ensures) (p .1))
 
-close-requires : tie.Need-close-requires
-close-requires c κs = (c .before .before .before .before .before .before .before .before .before .before .before .before .before .before .read-all .ensures .0 .0, omega (arith, c .before .before .before .before .before .out .given, c .before .before .before .before .before .before .before .before .before .before .before .before .before .before .before .before .before .before .before .before .before .before .before .before .before .before .pre .3))
+end-requires : tie.Need-end-requires
+end-requires c κs = (c .before .before .before .before .before .before .before .before .before .before .before .before .before .read-all .ensures .0 .0, omega (arith, c .before .before .before .before .out .given, c .before .before .before .before .before .before .before .before .before .before .before .before .before .before .before .before .before .before .before .before .before .before .before .before .before .pre .3))
 
 sub-print : tie.Need-sub-print
 sub-print c = search needs
@@ -21,11 +21,11 @@ part-print-start : tie.Need-part-print-start
 part-print-start c = search needs
 
 part-print-end : tie.Need-part-print-end
-part-print-end c = omega (arith, c .before .before .before .close .ensures .2, c .before .before .out2 .given, c .before .before .before .before .before .before .before .before .before .out .given, c .before .before .before .before .before .before .before .before .before .before .before .before .before .before .before .before .before .before .before .before .before .before .before .before .before .before .before .before .before .before .pre .3)
+part-print-end c = omega (arith, c .before .before .before .end .ensures .2, c .before .before .out2 .given, c .before .before .before .before .before .before .before .before .out .given, c .before .before .before .before .before .before .before .before .before .before .before .before .before .before .before .before .before .before .before .before .before .before .before .before .before .before .before .before .before .pre .3)
 
 print-requires : tie.Need-print-requires
-print-requires c κs = let r = c .before .before .before .before .before .before .before .before .before .before .before .before .before .before .before .before .before .before .before .read-all in let e = c .before .before .before .before .close in
-    prints-last (stateOf (r .result .script) (r .last .1 .1 .1 .0) (r .last .1 .1 .1 .1 .0)) (r .last .1 .1 .0) _ _ (e .result) (r .result .pending) (omega (arith, r .ensures .0 .1, c .before .before .before .before .before .before .before .before .before .before .before .before .before .before .before .before .line .given, c .before .before .before .before .before .before .before .before .before .before .before .before .before .before .before .before .before .before .before .before .before .before .before .before .before .before .before .before .before .before .before .pre .2)) (e .ensures .0) (e .ensures .1) (r .ensures .1)
+print-requires c κs = let r = c .before .before .before .before .before .before .before .before .before .before .before .before .before .before .before .before .before .before .read-all in let e = c .before .before .before .before .end in
+    prints-last (stateOf (r .result .script) (r .last .1 .1 .1 .0) (r .last .1 .1 .1 .1 .0)) (r .last .1 .1 .0) _ _ (e .result) (r .result .pending) (omega (arith, r .ensures .0 .1, c .before .before .before .before .before .before .before .before .before .before .before .before .before .before .before .line .given, c .before .before .before .before .before .before .before .before .before .before .before .before .before .before .before .before .before .before .before .before .before .before .before .before .before .before .before .before .before .before .pre .2)) (e .ensures .0) (e .ensures .1) (r .ensures .1 .0)
 
 same-length : tie.Need-same-length
 same-length c = search needs
@@ -51,7 +51,7 @@ run-spec =
     (tie.spec
     opening-requires
     read-all-requires
-    close-requires
+    end-requires
     sub-print
     part-print-start
     part-print-end
