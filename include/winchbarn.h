@@ -1,8 +1,8 @@
 /* Winchbarn's core for C and for whatever calls C. The archive is target/staticlib/libwinchbarn.a, made by `rt staticlib winchbarn` for
  * x86-64; for another machine target/native/libwinchbarn.a, made there by tests/archive.sh.
  *
- * A pointer with a length is a slice. NULL IS NOT ALLOWED, ALSO WHERE THE LENGTH IS 0: lend winchbarn_empty() where there is nothing to
- * lend (in C++ the data() of an empty vector may be null). Beyond that nothing is required of a caller but what C requires: a pointer is
+ * A pointer with a length is a slice. NULL IS NOT ALLOWED, ALSO WHERE THE LENGTH IS 0: lend winchbarn_empty(), or for bytes
+ * winchbarn_empty_bytes(), where there is nothing to lend (in C++ the data() of an empty vector may be null). Beyond that nothing is required of a caller but what C requires: a pointer is
  * aligned; as many elements as the length says may be read there, and where the pointer is not const, written; no slice that may be
  * written overlaps another slice of the same call; and the thread has the stack that the call needs (WINCHBARN_STACK_RUN_SCRIPT and those
  * below it).
@@ -127,6 +127,11 @@ static inline const char *winchbarn_refusal_meaning(uint32_t refusal) {
 static inline uint32_t *winchbarn_empty(void) {
     static uint32_t nothing;
     return &nothing;
+}
+
+/* The same for a slice of bytes. */
+static inline uint8_t *winchbarn_empty_bytes(void) {
+    return (uint8_t *)winchbarn_empty();
 }
 
 typedef struct {
@@ -280,7 +285,7 @@ typedef struct {
 /* The stack that a call needs, in bytes, from the frame of the function that makes it on: what is measured on x86-64 and AArch64, and
  * some more. tests/c/stack.c makes calls of each function with just that much. */
 enum {
-    WINCHBARN_STACK_RUN_SCRIPT = 212992,
+    WINCHBARN_STACK_RUN_SCRIPT = 253952,
     WINCHBARN_STACK_APPLY_EDIT = 8192,
     WINCHBARN_STACK_APPLY_EDIT_IN = 8192,
     WINCHBARN_STACK_APPLY_FRAME = 151552,
@@ -346,8 +351,8 @@ winchbarn_count winchbarn_write_mark(winchbarn_sel mark, uint8_t *out, size_t ou
 winchbarn_frame winchbarn_read_edit(const uint8_t *line, size_t line_len, uint32_t *out_payload, size_t out_payload_len,
                                     uint32_t *out_first, size_t out_first_len, uint32_t *out_second, size_t out_second_len);
 
-/* The text that a line is, to the front of `out`; the rest of `out` is kept. Refuses by 10 where the line is no frame of a text,
- * then 5, 8. */
+/* The characters that a text's line holds, to the front of `out`; the rest of `out` is kept. They are any Unicode scalars, at most 18,431:
+ * whether they are a text is judged where they are used as one. Refuses by 10 where the line is no frame of a text, then 5, 8. */
 winchbarn_count winchbarn_read_text(const uint8_t *line, size_t line_len, uint32_t *out, size_t out_len);
 
 /* The mark that a line is, found unless it is refused. Nothing lent is written. Refuses by 10 where the line is no frame of a mark. */

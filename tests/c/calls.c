@@ -79,6 +79,12 @@ static bool run_script(void) {
     return answer.refusal == 0 && answer.count == sizeof printed - 1 && memcmp(out, printed, answer.count) == 0;
 }
 
+static bool run_nothing(void) {
+    uint8_t out[3];
+    winchbarn_count answer = winchbarn_run_script(winchbarn_empty_bytes(), 0, out, sizeof out);
+    return answer.refusal == 0 && answer.count == 3 && memcmp(out, "01\n", 3) == 0;
+}
+
 /* "ab/cdef", the characters from (0,99) to (1,2): "abef", and back by "/cd" at (0,99). */
 static bool apply_edit(void) {
     uint32_t text[9] = {'a', 'b', '\n', 'c', 'd', 'e', 'f', 7, 7};
@@ -405,6 +411,7 @@ static const check checks[] = {
     {"layouts", layouts},
     {"refusals", refusals},
     {"run_script", run_script},
+    {"run_script of nothing", run_nothing},
     {"apply_edit", apply_edit},
     {"apply_edit_in", apply_edit_in},
     {"apply_edit_in refuses", apply_edit_in_refuses},

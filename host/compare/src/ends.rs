@@ -14,7 +14,7 @@ use crate::tally::{Input, Tally, Verdict};
 use crate::told;
 use crate::work::Work;
 
-/// Two selections; the first is taken by a kind too, and its head brought to the start of the other.
+/// Two selections; the first is taken by a kind too, and its head brought to the anchor of the other.
 pub struct Ends {
     pub kind: u32,
     pub sel: Sel,

@@ -30,8 +30,9 @@ pub fn read_edit(
     })
 }
 
-/// Reads the text that a line is to the front of `out`; answers how many characters it has. The rest of `out` is kept. Refuses
-/// by 10 where the line is no frame of a text, then 5, 8. Stack: [`stack::READ_TEXT`](crate::stack::READ_TEXT).
+/// Reads the characters that a text's line holds to the front of `out`; answers how many there are. The rest of `out` is kept.
+/// They are any Unicode scalars, at most 18,431: whether they are a text is judged where they are used as one. Refuses by 10
+/// where the line is no frame of a text, then 5, 8. Stack: [`stack::READ_TEXT`](crate::stack::READ_TEXT).
 pub fn read_text(line: &[u8], out: &mut [u32]) -> Result<usize, Refusal> {
     counted(raw::read_text(line, out))
 }

@@ -4,7 +4,7 @@
 const KB: usize = 1024;
 
 /// [`run_script`](crate::run_script)
-pub const RUN_SCRIPT: usize = 208 * KB;
+pub const RUN_SCRIPT: usize = 248 * KB;
 /// [`apply_edit`](crate::apply_edit)
 pub const APPLY_EDIT: usize = 8 * KB;
 /// [`apply_edit_in`](crate::apply_edit_in)
