@@ -12,8 +12,9 @@ pub struct ReadEdit {
     pub second: usize,
 }
 
-/// Reads the edit that a line is, its payload and lists to the front of the slices, the rest of which is kept. Refuses by 10
-/// where the line is no frame of an edit, then 5, 8. Stack: [`stack::READ_EDIT`](crate::stack::READ_EDIT).
+/// Reads the edit that a line is, its payload and lists to the front of the slices, the rest of which is kept. 18,432
+/// characters and 4,608 and 3,687 items are always enough. Refuses by 10 where the line is no frame of an edit, then 5, 8.
+/// Stack: [`stack::READ_EDIT`](crate::stack::READ_EDIT).
 pub fn read_edit(
     line: &[u8],
     out_payload: &mut [u32],

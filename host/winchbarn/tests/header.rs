@@ -95,6 +95,18 @@ fn the_refusals_agree() {
 }
 
 #[test]
+fn the_header_has_no_other_numbers() {
+    let counted = ["_LIMIT", "STACK_", "VERSION_"];
+    let others = constants()
+        .into_keys()
+        .filter(|name| !counted.iter().any(|part| name.contains(part)));
+    assert_eq!(
+        others.count(),
+        Kind::ALL.len() + Shape::ALL.len() + refusals().count()
+    );
+}
+
+#[test]
 fn the_stacks_agree() {
     let stacks = [
         ("STACK_RUN_SCRIPT", stack::RUN_SCRIPT),
