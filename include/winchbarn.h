@@ -10,6 +10,8 @@
  * All input gets an answer. A `refusal` is 0, or one of the numbers from WINCHBARN_BAD_TEXT on: each function names those by which it
  * refuses, in the order in which it looks for them, and gives the first that holds. A refusal changes nothing that was lent.
  *
+ * The archive holds a table that is made from Unicode's data. NOTICE has the licence that goes with it.
+ *
  * No function keeps a pointer, allocates or has a state; calls in several threads do not meet. The archive calls memcpy and memset, and
  * nothing else that is not in it.
  *
@@ -23,7 +25,7 @@
 #include <stdint.h>
 
 #define WINCHBARN_VERSION_MAJOR 0
-#define WINCHBARN_VERSION_MINOR 1
+#define WINCHBARN_VERSION_MINOR 2
 #define WINCHBARN_VERSION_PATCH 0
 
 #ifdef __cplusplus
@@ -33,7 +35,7 @@ extern "C" {
 enum {
     WINCHBARN_TEXT_LIMIT = 16384,     /* characters of a text, and of a payload */
     WINCHBARN_LIST_LIMIT = 256,       /* items of an edit's list, rows that a DELETE_BLOCK spans, joins that a join would make */
-    WINCHBARN_NUMBER_LIMIT = 1000000, /* an edit's number or list item, a number of a position that is shifted */
+    WINCHBARN_NUMBER_LIMIT = 1000000, /* an edit's number or list item, a number of what is shifted, a box's cells, a tab width */
     WINCHBARN_LINE_LIMIT = 36864,     /* digits of a line */
     WINCHBARN_SELECTION_LIMIT = 4096  /* numbers of the selections that are merged, four to each */
 };
@@ -43,7 +45,8 @@ enum {
     /* A used length over the buffer or WINCHBARN_TEXT_LIMIT; a value in the text that is not admitted. Where UTF-8 is written: a value that
      * is no Unicode scalar. */
     WINCHBARN_BAD_TEXT = 1,
-    /* A number over WINCHBARN_NUMBER_LIMIT: one that the edit's kind uses, items of its lists included, or one of what is shifted. */
+    /* A number over WINCHBARN_NUMBER_LIMIT: one that the edit's kind uses, items of its lists included, one of what is shifted, a box's
+     * cells or a tab width. */
     WINCHBARN_TOO_BIG = 2,
     /* A list of the edit with more than WINCHBARN_LIST_LIMIT items, a DELETE_BLOCK that spans more rows, a join that would make more joins;
      * a payload of more than WINCHBARN_TEXT_LIMIT characters; selections of more than WINCHBARN_SELECTION_LIMIT numbers. */
@@ -298,7 +301,7 @@ enum {
     WINCHBARN_STACK_UNDOABLE = 4096,
     WINCHBARN_STACK_SET_CURSOR = 2048,
     WINCHBARN_STACK_CLAMP_POSITION = 2048,
-    WINCHBARN_STACK_BOX_FIT = 2048,
+    WINCHBARN_STACK_BOX_FIT = 4096,
     WINCHBARN_STACK_SHIFT_POSITION = 4096,
     WINCHBARN_STACK_SHIFT_SEL = 4096,
     WINCHBARN_STACK_MERGE_OVERLAPPING = 40960,
@@ -374,9 +377,11 @@ winchbarn_viewed winchbarn_set_cursor(const uint32_t *text, size_t text_len, win
  * Nothing lent is written. Refuses by 1. */
 winchbarn_place winchbarn_clamp_position(const uint32_t *text, size_t text_len, size_t used, winchbarn_position pos);
 
-/* The first row with more characters than a box has cells, and the column where it leaves; none where all rows fit. Nothing lent is
- * written. Refuses by 1. */
-winchbarn_place winchbarn_box_fit(const uint32_t *text, size_t text_len, size_t used, uint32_t cells);
+/* The first row that is wider than a box of so many cells, and the column of its first character whose last cell lies outside; none where
+ * all rows fit. A character takes two cells where it is Wide or Fullwidth in UAX #11, by EastAsianWidth.txt of Unicode 15.0.0, and one
+ * otherwise, also where it is combining; a tab runs to the next multiple of the tab width, 0 acting as 1, counted in cells from the row's
+ * start, and takes one at least; a line feed takes none. Nothing lent is written. Refuses by 1, then 2. */
+winchbarn_place winchbarn_box_fit(const uint32_t *text, size_t text_len, size_t used, uint32_t cells, uint32_t tab);
 
 /* Where a position goes when the edit is made to the view's text; the pads of DELETE_BLOCK_CHUNKS are left out of account. None for
  * SPLIT_LINES, over which nothing is followed, and for no other kind. Nothing lent is written. Refuses by 10 where the kind is none, then

@@ -46,6 +46,7 @@ typedef struct {
     uint32_t function;
     uint32_t number;
     uint32_t row;
+    uint32_t tab;
     size_t used;
     winchbarn_view view;
     winchbarn_edit edit;

@@ -259,10 +259,11 @@ winchbarn_place winchbarn_clamp_position(const uint32_t *text, size_t text_len, 
     ANSWER(winchbarn_place, place);
 }
 
-winchbarn_place winchbarn_box_fit(const uint32_t *text, size_t text_len, size_t used, uint32_t cells) {
+winchbarn_place winchbarn_box_fit(const uint32_t *text, size_t text_len, size_t used, uint32_t cells, uint32_t tab) {
     call *c = begin(BOX_FIT);
     c->used = used;
     c->number = cells;
+    c->tab = tab;
     READ(text);
     ANSWER(winchbarn_place, place);
 }

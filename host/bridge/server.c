@@ -56,7 +56,7 @@ static void serve(call *c) {
         c->answer.place = winchbarn_clamp_position(WORDS(0), c->used, c->pos);
         break;
     case BOX_FIT:
-        c->answer.place = winchbarn_box_fit(WORDS(0), c->used, c->number);
+        c->answer.place = winchbarn_box_fit(WORDS(0), c->used, c->number, c->tab);
         break;
     case SHIFT_POSITION:
         c->answer.place = winchbarn_shift_position(WORDS(0), c->view, c->edit, WORDS(1), WORDS(2), WORDS(3), c->pos);

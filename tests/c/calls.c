@@ -304,12 +304,25 @@ static bool clamp_position(void) {
     return answer.refusal == 0 && answer.found && same_place(answer.at, at(1, 0));
 }
 
+/* Of kana and a tab: the first row is three cells wide, and the second eight and two. */
 static bool box_fit(void) {
-    static const uint32_t text[5] = {'a', '\n', 'b', 'c', 'd'};
-    winchbarn_place leaves = winchbarn_box_fit(text, LENGTH(text), 5, 2);
-    winchbarn_place fits = winchbarn_box_fit(text, LENGTH(text), 5, 3);
-    return leaves.refusal == 0 && leaves.found && same_place(leaves.at, at(1, 2)) && fits.refusal == 0 && !fits.found &&
-           same_place(fits.at, origin);
+    static const uint32_t text[5] = {'a', 0x3042, '\n', '\t', 0x3044};
+    winchbarn_place first = winchbarn_box_fit(text, LENGTH(text), 5, 2, 8);
+    winchbarn_place second = winchbarn_box_fit(text, LENGTH(text), 5, 9, 8);
+    winchbarn_place fits = winchbarn_box_fit(text, LENGTH(text), 5, 10, 8);
+    return first.refusal == 0 && first.found && same_place(first.at, at(0, 1)) && second.refusal == 0 && second.found &&
+           same_place(second.at, at(1, 1)) && fits.refusal == 0 && !fits.found && same_place(fits.at, origin);
+}
+
+/* By 1 whatever the numbers are, then by 2; the limit itself is taken. */
+static bool box_fit_refuses(void) {
+    static const uint32_t text[2] = {'\t', '\r'};
+    winchbarn_place at_limit = winchbarn_box_fit(text, LENGTH(text), 1, WINCHBARN_NUMBER_LIMIT, WINCHBARN_NUMBER_LIMIT);
+    winchbarn_place box = winchbarn_box_fit(text, LENGTH(text), 1, WINCHBARN_NUMBER_LIMIT + 1, 8);
+    winchbarn_place tab = winchbarn_box_fit(text, LENGTH(text), 1, 8, WINCHBARN_NUMBER_LIMIT + 1);
+    winchbarn_place bad = winchbarn_box_fit(text, LENGTH(text), 2, UINT32_MAX, UINT32_MAX);
+    return at_limit.refusal == 0 && !at_limit.found && box.refusal == WINCHBARN_TOO_BIG && !box.found && tab.refusal == WINCHBARN_TOO_BIG &&
+           !tab.found && bad.refusal == WINCHBARN_BAD_TEXT && !bad.found;
 }
 
 /* "ab/cd" joined with a space: (1,2) goes to (0,5). */
@@ -429,6 +442,7 @@ static const check checks[] = {
     {"set_cursor", set_cursor},
     {"clamp_position", clamp_position},
     {"box_fit", box_fit},
+    {"box_fit refuses", box_fit_refuses},
     {"shift_position", shift_position},
     {"shift_sel", shift_sel},
     {"merge_overlapping", merge_overlapping},

@@ -218,9 +218,14 @@ static bool clamp_position(void) {
     return winchbarn_clamp_position(text, LENGTH(text), view.used, pos).refusal == 0;
 }
 
+/* Rows of a tab and eight kana, which just fit, so that every one of them is looked for in the table of widths. */
 static bool box_fit(void) {
     winchbarn_view view = open_text(12000);
-    return winchbarn_box_fit(text, LENGTH(text), view.used, 9).refusal == 0;
+    for (size_t i = 0; i < view.used; i += 10) {
+        text[i] = '\t';
+    }
+    winchbarn_place fits = winchbarn_box_fit(text, LENGTH(text), view.used, 24, 8);
+    return fits.refusal == 0 && !fits.found && winchbarn_box_fit(text, LENGTH(text), view.used, 23, 8).found;
 }
 
 static bool shift_position(void) {

@@ -1,15 +1,19 @@
 // The box test.
+use cells::cell_after;
+use cells::wide_table;
 use text::Col;
 use text::LF;
 use text::Position;
 use text::Row;
 use text::is_text;
+use too_big::NUMBER_LIMIT;
 ghost use mathlib.Core.Path.{_≡_};
-ghost use Prim.Native.Nat.{_+_, _≤_, _<_};
+ghost use Prim.Native.Nat.{_≤_};
 ghost use lib.ListN.{length};
 ghost use Rattle.promise.specs.Paper.{done};
 ghost use Rattle.text.specs.Rows.{lines};
 ghost use Rattle.text.specs.Text.{isLF, textLimit};
+ghost use Rattle.cells.specs.Wide.{edges, ranges};
 ghost use Rattle.fit.specs.Calls.{paperBoxFit, firstOver, fitsIn};
 
 // Whether every row fits a box, or where the first that does not leaves it.
@@ -17,21 +21,15 @@ pub enum BoxFit {
     AllFit,
     Leaves(Position),
     BadText,
+    TooBig,
 }
 
-// How many cells of a row are taken once the character stands after `cell` taken ones.
-fn cell_after(cell: u32, _character: u32) -> u32
-    requires { ⌜ cell < textLimit ⌝ }
-    ensures { λ r. ⌜ r ≡ cell + 1 ⌝ }
-{
-    cell + 1
-}
-
-fn first_over(text: &[u32], cells: u32) -> BoxFit
-    requires { ⌜ length (now text) ≤ textLimit ⌝ }
-    ensures { λ r. ⌜ paperBoxFit r ≡ done (firstOver cells 0 (lines isLF (now (text .entry)))) ⌝ }
+fn first_over(text: &[u32], cells: u32, tab: u32, table: &[u32]) -> BoxFit
+    requires { ⌜ (length (now text) ≤ textLimit) × (cells ≤ 1_000_000) × (tab ≤ 1_000_000) × (now table ≡ edges ranges) ⌝ }
+    ensures { λ r. ⌜ paperBoxFit r ≡ done (firstOver cells tab 0 (lines isLF (now (text .entry)))) ⌝ }
 {
     let mut answer = BoxFit::AllFit;
+    let mut near = 0;
     let mut row = 0;
     let mut i = 0;
     'rows: while i < text.len() {
@@ -41,15 +39,17 @@ fn first_over(text: &[u32], cells: u32) -> BoxFit
             if text[i] == LF {
                 break;
             }
-            let next = cell_after(cell, text[i]);
-            if cells < next {
+            let next = cell_after(table, near, tab, cell, text[i]);
+            let end = next.cell;
+            if cells < end {
                 answer = BoxFit::Leaves(Position {
                     row: Row(row),
                     col: Col(col),
                 });
                 break 'rows;
             }
-            cell = next;
+            cell = end;
+            near = next.near;
             col += 1;
             i += 1;
         }
@@ -61,12 +61,18 @@ fn first_over(text: &[u32], cells: u32) -> BoxFit
     answer
 }
 
-// The first row that leaves a box of `cells` cells, and the column where it does.
-pub fn box_fit(buffer: &[u32], used: usize, cells: u32) -> BoxFit
-    ensures { λ r. ⌜ paperBoxFit r ≡ fitsIn (now (buffer .entry)) used cells ⌝ }
+// The first row that leaves a box of `cells` cells, and the column of the first character whose last cell lies outside.
+pub fn box_fit(buffer: &[u32], used: usize, cells: u32, tab: u32) -> BoxFit
+    ensures { λ r. ⌜ paperBoxFit r ≡ fitsIn (now (buffer .entry)) used cells tab ⌝ }
 {
-    if !is_text(buffer, used) {
+    let good = is_text(buffer, used);
+    let small = (cells <= NUMBER_LIMIT) & (tab <= NUMBER_LIMIT);
+    if !good {
         return BoxFit::BadText;
     }
-    first_over(&buffer[0..used], cells)
+    if !small {
+        return BoxFit::TooBig;
+    }
+    let table = wide_table();
+    first_over(&buffer[0..used], cells, tab, &table)
 }

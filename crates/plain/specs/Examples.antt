@@ -9,7 +9,8 @@ use Rattle.utf8.specs.Answers.{paperDecoded}
 use Rattle.text.specs.Rows.{at}
 use Rattle.text.specs.declared.Clamped.the-variants.{BadText}
 use Rattle.text.specs.Answers.{paperClamped}
-use Rattle.fit.specs.Calls.{allFit}
+use Rattle.fit.specs.declared.BoxFit.the-variants.{TooBig}
+use Rattle.fit.specs.Calls.{allFit, paperBoxFit}
 use Rattle.select.specs.declared.Selection.the-variants as asSelection
 use Rattle.select.specs.Answers.{between}
 use Rattle.select.specs.Sels.{sel}
@@ -32,8 +33,9 @@ pub record RuledOut : Type 0 where
   pub spaced : meant (ofKind 6) ≡ some (JoinLines (rowAt 1) 5 true)
   -- as much told of the payload as of the first list
   pub payload : toldDone (record { view = record { used = 0; cursor = at 0 0; changes = 0 }; inverse = JoinLines (rowAt 1) 5 true; payload = 1; first = 2; second = 3 }) .payload ≡ 1
-  -- that all rows fit told as refusal 1; what is no text told as a position that is not there
+  -- that all rows fit told as refusal 1, a box that is too big as fitting or as 1; what is no text told as a position that is not there
   pub fits : toldFit (done allFit) ≡ record { refusal = 0; found = false; at = at 0 0 }
+  pub too-big : toldFit (paperBoxFit TooBig) ≡ record { refusal = 2; found = false; at = at 0 0 }
   pub no-text : toldClamped (paperClamped BadText) ≡ record { refusal = 1; found = false; at = at 0 0 }
   -- 8 told as 9
   pub no-room : toldCount (paperDecoded NoRoom) ≡ record { refusal = 8; offset = 0; count = 0 }

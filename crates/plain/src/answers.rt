@@ -210,6 +210,7 @@ pub fn told_fit(fit: BoxFit) -> Found
         BoxFit::AllFit => not_found(0),
         BoxFit::Leaves(at) => found_at(at),
         BoxFit::BadText => not_found(1),
+        BoxFit::TooBig => not_found(2),
     }
 }
 

@@ -6,8 +6,8 @@ ghost use mathlib.Core.Path.{_≡_};
 ghost use Rattle.text.specs.Text.{all};
 ghost use Rattle.edit.specs.Refusals.{small, smallPosition, smallRange, smallOk};
 
-// The greatest number that an edit has.
-const NUMBER_LIMIT: u32 = 1_000_000;
+// The greatest number of an edit, of what is shifted, or of a box.
+pub const NUMBER_LIMIT: u32 = 1_000_000;
 
 fn all_small(list: &[u32]) -> bool
     ensures { λ r. ⌜ r ≡ all small (now (list .entry)) ⌝ }

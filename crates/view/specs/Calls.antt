@@ -22,6 +22,6 @@ UndoablePromised r buffer v e payload first second = (ox of os : List ℕ) → p
 abbrev pub withCursor : View → Position → View
 withCursor v c = record { used = v .used; cursor = c; changes = v .changes }
 
--- set_cursor: "Clamping, cursor moves and the box test take any 32-bit number and refuse by row 1 alone."
+-- set_cursor: "Clamping, cursor moves .. take any 32-bit number and refuse by row 1 alone."
 abbrev pub cursorSetIn : List ℕ → View → Position → Paper View
 cursorSetIn buffer v p = onText (λ t. withCursor v (clamp isLF t p)) buffer (v .used)

@@ -86,8 +86,9 @@ pub record RuledOut : Type 0 where
   pub set-cursor : toldView one (cursorSetIn (0x61 ∷ 0x61 ∷ []) one (at 9 9)) ≡ record { refusal = 0; view = record { used = 1; cursor = at 0 1; changes = 0 } }
   -- clamp_position: a position brought into the whole buffer
   pub clamp-position : toldClamped (clampedIn (0x61 ∷ 0x61 ∷ []) 1 (at 0 9)) ≡ foundAt (at 0 1)
-  -- box_fit: the number of cells taken for the text's length
-  pub box-fit : toldFit (fitsIn (0x61 ∷ 0x61 ∷ 0x61 ∷ []) 3 2) ≡ foundAt (at 0 2)
+  -- box_fit: the number of cells taken for the text's length; cells and tab width in each other's place
+  pub box-fit : toldFit (fitsIn (0x61 ∷ 0x61 ∷ 0x61 ∷ []) 3 2 8) ≡ foundAt (at 0 2)
+  pub box-tab : toldFit (fitsIn (9 ∷ []) 1 2 3) ≡ foundAt (at 0 0)
   -- shift_position: a block's lists handed in each other's place
   pub shift-position : shiftCall (0x61 ∷ []) one (atFront 9) (0x58 ∷ []) (1 ∷ []) [] (at 0 0) ≡ foundAt (at 0 1)
   -- shift_sel: an edit of a kind that is none drops every selection

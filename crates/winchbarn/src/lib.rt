@@ -267,10 +267,10 @@ pub extern "C" fn winchbarn_clamp_position(text: &[u32], used: usize, pos: Posit
 }
 
 #[no_mangle]
-pub extern "C" fn winchbarn_box_fit(text: &[u32], used: usize, cells: u32) -> Found
-    ensures { λ r. ⌜ r ≡ toldFit (fitsIn (now (text .entry)) used cells) ⌝ }
+pub extern "C" fn winchbarn_box_fit(text: &[u32], used: usize, cells: u32, tab: u32) -> Found
+    ensures { λ r. ⌜ r ≡ toldFit (fitsIn (now (text .entry)) used cells tab) ⌝ }
 {
-    told_fit(box_fit(text, used, cells))
+    told_fit(box_fit(text, used, cells, tab))
 }
 
 #[no_mangle]

@@ -14,14 +14,11 @@ pub struct Whole {
     pub second: Vec<u32>,
 }
 
-/// Characters in rows of 50 to 69, the last of them cut where the count is reached; ASCII and kana mixed.
-pub fn mixed_text(count: usize) -> Vec<u32> {
+/// Characters in rows of 50 to 69, the last of them cut where the count is reached.
+fn in_rows(count: usize, character: impl Fn(u32, u32) -> u32) -> Vec<u32> {
     let mut text = Vec::with_capacity(count);
     for row in 0.. {
-        for col in 0..50 + row * 7 % 20 {
-            let kana = (row + col / 5) % 3 == 0;
-            text.push(if kana { 0x3042 } else { 0x61 } + (row * 11 + col) as u32 % 26);
-        }
+        text.extend((0..50 + row * 7 % 20).map(|col| character(row, col)));
         text.push(0x0a);
         if text.len() >= count {
             text.truncate(count);
@@ -29,6 +26,23 @@ pub fn mixed_text(count: usize) -> Vec<u32> {
         }
     }
     unreachable!()
+}
+
+/// ASCII and kana mixed, in rows.
+pub fn mixed_text(count: usize) -> Vec<u32> {
+    in_rows(count, |row, col| {
+        let kana = (row + col / 5) % 3 == 0;
+        let first = if kana { 0x3042 } else { 0x61 };
+        first + (row * 11 + col) % 26
+    })
+}
+
+/// So many different characters from this one on, in rows that begin with a tab.
+pub fn tabbed_text(count: usize, first: u32, different: u32) -> Vec<u32> {
+    in_rows(count, |row, col| match col {
+        0 => 0x09,
+        _ => first + (row * 11 + col) % different,
+    })
 }
 
 fn row_count(text: &[u32]) -> u32 {

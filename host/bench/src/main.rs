@@ -1,5 +1,6 @@
 //! Times the core against the original over its stand-ins and against plain Rust, all in one run, and prints a Markdown table.
 
+mod boxes;
 mod cases;
 mod measured;
 mod plain;
@@ -73,6 +74,7 @@ fn main() {
         shown(clock())
     );
     measured::clamping();
+    measured::boxes();
     measured::edits();
     measured::shifts();
     measured::utf8();

@@ -4,6 +4,7 @@ use std::hint::black_box;
 
 use winchbarn::*;
 
+use crate::boxes::first_over;
 use crate::cases::{self, CHARACTERS, Whole};
 use crate::plain::{self, Plain, all_admissible};
 use crate::sides::{original_edit, original_position, plain_edit, string};
@@ -11,6 +12,8 @@ use crate::timing::{Side, timed};
 use crate::{report, script, table};
 
 const BUFFER: usize = 16_384;
+const CELLS: u32 = 144;
+const TAB_WIDTH: u32 = 8;
 const SELECTIONS: u32 = 1_024;
 const SCRIPT_TEXT: usize = 4_000;
 const SCRIPT_EDITS: usize = 10_000;
@@ -116,6 +119,33 @@ pub fn clamping() {
             vec![Side::new(|| timed(by_core)), Side::new(|| timed(by_rust))],
         );
     }
+}
+
+/// Rows that all fit, so that the whole text is walked; the widest of kana takes just as many cells as the box has.
+pub fn boxes() {
+    table("box", &["plain", "plain after scan"]);
+    box_compared("ASCII", &cases::tabbed_text(CHARACTERS, 0x21, 94));
+    box_compared("kana", &cases::tabbed_text(CHARACTERS, 0x3041, 86));
+    box_compared("mixed", &cases::mixed_text(CHARACTERS));
+}
+
+fn box_compared(name: &str, opening: &[u32]) {
+    let core = Core::holding(opening);
+    let by_core = |cells| box_fit(black_box(&core.text), core.view.used, cells, TAB_WIDTH);
+    let by_rust = |cells| first_over(black_box(opening), cells, TAB_WIDTH);
+    assert_eq!(by_rust(CELLS), None);
+    for cells in 0..=CELLS {
+        assert_eq!(by_core(cells), Ok(by_rust(cells)));
+    }
+    let scanned = || all_admissible(black_box(opening)).then(|| by_rust(CELLS));
+    report(
+        name,
+        vec![
+            Side::new(|| timed(|| by_core(CELLS))),
+            Side::new(|| timed(|| by_rust(CELLS))),
+            Side::new(|| timed(scanned)),
+        ],
+    );
 }
 
 pub fn edits() {

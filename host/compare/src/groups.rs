@@ -6,7 +6,7 @@ use crate::random::Random;
 use crate::tally::Tally;
 use crate::work::{Extent, Work};
 use crate::{
-    cursors, edits, ends, framed, merges, places, reads, runs, scripts, shifts, spans, utf8,
+    boxes, cursors, edits, ends, framed, merges, places, reads, runs, scripts, shifts, spans, utf8,
 };
 
 /// A group; where its cases are random, how many of them a tiny and a quick run have, and of a thousand a long one.
@@ -44,7 +44,7 @@ const fn random(
     }
 }
 
-const GROUPS: [Group; 30] = [
+const GROUPS: [Group; 33] = [
     exhaustive("small edits", edits::small),
     random("edits", edits::random, 3_000, 400_000, 260),
     random("wrong edits", edits::wrong, 3_000, 300_000, 200),
@@ -68,8 +68,11 @@ const GROUPS: [Group; 30] = [
     random("row spans", spans::random, 3_000, 100_000, 20),
     exhaustive("small ends", ends::small),
     random("ends", ends::random, 3_000, 100_000, 10),
-    exhaustive("small clamps and boxes", places::small),
-    random("clamps and boxes", places::random, 2_000, 200_000, 30),
+    exhaustive("small clamps", places::small),
+    random("clamps", places::random, 1_000, 100_000, 10),
+    exhaustive("small boxes", boxes::small),
+    random("boxes", boxes::random, 2_000, 200_000, 20),
+    exhaustive("boxes of one character", boxes::one_character),
     exhaustive("small cursors", cursors::small),
     random("cursors", cursors::random, 1_000, 100_000, 10),
     exhaustive("small frames", framed::small),

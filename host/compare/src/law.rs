@@ -1,4 +1,4 @@
-//! What document 01 says of a call: the refusal that its table gives, or what the original does.
+//! What document 01 says of a call, and document 02 of the box test: the refusal that the table gives, or what the original does.
 
 use winchbarn::raw::{
     DELETE_BLOCK, DELETE_BLOCK_CHUNKS, DELETE_CHAR, DELETE_LINE, INSERT_BLOCK, INSERT_CHAR,
@@ -8,12 +8,14 @@ use winchbarn::{Position, Refusal};
 
 use crate::bridge::{self, Done};
 use crate::calls::{Call, Room, Whole, at};
+use crate::widths::is_wide;
 
 pub const TEXT_LIMIT: usize = 16_384;
 pub const NUMBER_LIMIT: u32 = 1_000_000;
 pub const LIST_LIMIT: usize = 256;
 
 pub const LF: u32 = 0x0a;
+pub const TAB: u32 = 0x09;
 
 /// What a call that may be refused comes to.
 pub type Answer<T> = Result<T, Refusal>;
@@ -38,11 +40,46 @@ pub fn clamped(lengths: &[usize], pos: Position) -> Position {
     at(row, pos.col.min(lengths[row as usize] as u32))
 }
 
-/// The first row with more characters than cells, and the column where it leaves.
-pub fn first_over(lengths: &[usize], cells: u32) -> Option<Position> {
-    let over = |length: &usize| *length > cells as usize;
-    let row = lengths.iter().position(over)?;
-    Some(at(row as u32, cells))
+/// Where each character of a row ends, counted in cells.
+fn cell_ends(row: &[u32], tab: u32) -> impl Iterator<Item = usize> {
+    let stop = tab.max(1) as usize;
+    row.iter().scan(0usize, move |end, value| {
+        *end = match *value {
+            TAB => (*end + 1).next_multiple_of(stop),
+            value if is_wide(value) => *end + 2,
+            _ => *end + 1,
+        };
+        Some(*end)
+    })
+}
+
+/// How many cells the widest row takes.
+pub fn widest(text: &[u32], tab: u32) -> usize {
+    let rows = text.split(|c| *c == LF);
+    let width = |row| cell_ends(row, tab).last().unwrap_or_default();
+    rows.map(width).max().expect("a row")
+}
+
+/// The first row that is wider than a box, and the column of its first character whose last cell lies outside.
+fn first_over(text: &[u32], cells: u32, tab: u32) -> Option<Position> {
+    let outside = |end| end > cells as usize;
+    for (row, characters) in (0..).zip(text.split(|c| *c == LF)) {
+        if let Some(col) = cell_ends(characters, tab).position(outside) {
+            return Some(at(row, col as u32));
+        }
+    }
+    None
+}
+
+/// What the box test comes to: refusal 1, refusal 2, or an answer.
+pub fn boxed(buffer: &[u32], used: usize, cells: u32, tab: u32) -> Answer<Option<Position>> {
+    if bad_text(buffer, used) {
+        return Err(refusal(1));
+    }
+    if cells > NUMBER_LIMIT || tab > NUMBER_LIMIT {
+        return Err(refusal(2));
+    }
+    Ok(first_over(&buffer[..used], cells, tab))
 }
 
 /// Refusal 1.

@@ -1,8 +1,9 @@
 //! The core beside the original and document 01: the same input to both, and all that comes of it compared.
 //!
-//! `law` says what document 01 and the original make of a call and `told` what its caller is told, `lend` and `guard` lend its slices to the core and look them over
-//! afterwards, `small`, `cases`, `limits`, `bruises` and `damage` make the input, and `groups` runs it.
+//! `law` says what document 01 and the original make of a call, `widths` which characters are wide and `told` what a caller is told, `lend` and `guard` lend its slices
+//! to the core and look them over afterwards, `small`, `cases`, `limits`, `bruises` and `damage` make the input, and `groups` runs it.
 
+pub mod boxes;
 pub mod bridge;
 pub mod bruises;
 pub mod calls;
@@ -32,4 +33,5 @@ pub mod spans;
 pub mod tally;
 pub mod told;
 pub mod utf8;
+pub mod widths;
 pub mod work;

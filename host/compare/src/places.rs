@@ -1,4 +1,4 @@
-//! `clamp_position` and `box_fit` beside document 01's words.
+//! `clamp_position` beside document 01's words.
 
 use std::fmt;
 
@@ -10,11 +10,11 @@ use crate::guard::Guarded;
 use crate::law::{self, Answer, refusal};
 use crate::random::Random;
 use crate::small;
-use crate::tally::{Input, Tally, Verdict};
+use crate::tally::{Input, Verdict};
 use crate::told;
 use crate::work::Work;
 
-/// A buffer, how much of it is used, and a position in it; the position's column serves as a box's cells.
+/// A buffer, how much of it is used, and a position in it.
 pub struct Place {
     pub buffer: Vec<u32>,
     pub used: usize,
@@ -22,28 +22,19 @@ pub struct Place {
 }
 
 impl Place {
-    fn lengths(&self) -> Answer<Vec<usize>> {
+    fn expected(&self) -> Answer<Option<Position>> {
         if law::bad_text(&self.buffer, self.used) {
             return Err(refusal(1));
         }
-        Ok(law::row_lengths(&self.buffer[..self.used]))
+        let lengths = law::row_lengths(&self.buffer[..self.used]);
+        Ok(Some(law::clamped(&lengths, self.pos)))
     }
 
-    pub fn compare_clamped(&self) -> Verdict {
+    pub fn compare(&self) -> Verdict {
         let buffer = Guarded::of(&self.buffer);
         let answer = raw::clamp_position(buffer.lent(), self.used, self.pos);
         buffer.expect_kept("text")?;
-        let expected = self.lengths().map(|it| Some(law::clamped(&it, self.pos)));
-        told::same(&expected, told::placed, answer)
-    }
-
-    pub fn compare_box(&self) -> Verdict {
-        let buffer = Guarded::of(&self.buffer);
-        let cells = self.pos.col;
-        let answer = raw::box_fit(buffer.lent(), self.used, cells);
-        buffer.expect_kept("text")?;
-        let expected = self.lengths().map(|it| law::first_over(&it, cells));
-        told::same(&expected, told::placed, answer)
+        told::same(&self.expected(), told::placed, answer)
     }
 }
 
@@ -61,11 +52,6 @@ impl Input for Place {
     }
 }
 
-fn compare(tally: &mut Tally, place: &Place) {
-    tally.note(place, place.compare_clamped());
-    tally.note(place, place.compare_box());
-}
-
 /// All positions of small texts and a little past them.
 pub fn small(work: &mut Work) {
     for text in small::texts(work.bounds()) {
@@ -75,18 +61,40 @@ pub fn small(work: &mut Work) {
                 buffer: text.clone(),
                 pos,
             };
-            compare(&mut work.tally, &place);
+            work.tally.note(&place, place.compare());
         }
     }
 }
 
-/// A text of any length up to the limits and a little past, used up to any place of it or past its end, and a position.
-pub fn any_place(random: &mut Random) -> Place {
-    let length = match random.below(200) {
+/// Up to the limits and a little past.
+pub fn any_length(random: &mut Random) -> usize {
+    match random.below(200) {
         0 => random.between(16_382, 16_386),
         1 => random.below(12_000),
         _ => random.below(60),
-    };
+    }
+}
+
+/// Up to any place of so long a buffer, or past its end.
+pub fn any_used(random: &mut Random, length: usize) -> usize {
+    let used = random.between(0, length);
+    match random.below(20) {
+        0 => length + random.between(1, 3),
+        1 => length,
+        _ => used,
+    }
+}
+
+/// Puts a value that no text may have into one buffer of eight.
+pub fn spoil(random: &mut Random, buffer: &mut [u32]) {
+    if !buffer.is_empty() && random.one_in(8) {
+        buffer[random.below(buffer.len())] = random.pick(&cases::INADMISSIBLE);
+    }
+}
+
+/// A text of any length, used up to any place of it or past its end, and a position.
+pub fn any_place(random: &mut Random) -> Place {
+    let length = any_length(random);
     let mut buffer = cases::text(random, length);
     let mut pos = cases::place(random, &law::row_lengths(&buffer));
     match random.below(20) {
@@ -94,21 +102,14 @@ pub fn any_place(random: &mut Random) -> Place {
         1 => pos.col = random.value(),
         _ => {}
     }
-    let mut used = random.between(0, length);
-    match random.below(20) {
-        0 => used = length + random.between(1, 3),
-        1 => used = length,
-        _ => {}
-    }
-    if length > 0 && random.one_in(8) {
-        buffer[random.below(length)] = random.pick(&cases::INADMISSIBLE);
-    }
+    let used = any_used(random, length);
+    spoil(random, &mut buffer);
     Place { buffer, used, pos }
 }
 
 pub fn random(work: &mut Work) {
-    while work.tally.cases() < work.cases {
+    for _ in 0..work.cases {
         let place = any_place(&mut work.random);
-        compare(&mut work.tally, &place);
+        work.tally.note(&place, place.compare());
     }
 }

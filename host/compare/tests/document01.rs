@@ -1,4 +1,4 @@
-//! The Rust that the core is compared with, held against document 01's examples and readings.
+//! The Rust that the core is compared with, held against document 01's examples and readings, and the box test against what document 02 says.
 
 use compare::bridge::{self, Done};
 use compare::calls::{Call, Room, Whole, at, chars};
@@ -191,6 +191,27 @@ fn shifts_are_refused_where_ends_are_reversed() {
         Shift::over(&split).position(at(0, 1_000_001)),
         Err(law::refusal(2))
     );
+}
+
+#[test]
+fn boxes_count_cells_and_are_refused_by_1_then_2() {
+    let boxed = |text: &str, cells, tab| law::boxed(&chars(text), text.chars().count(), cells, tab);
+    assert_eq!(boxed("aあ", 2, 8), Ok(Some(at(0, 1))));
+    assert_eq!(boxed("aあ", 3, 8), Ok(None));
+    assert_eq!(boxed("あ", 1, 8), Ok(Some(at(0, 0))));
+    assert_eq!(boxed("a\t", 4, 8), Ok(Some(at(0, 1))));
+    assert_eq!(boxed("a\t", 8, 8), Ok(None));
+    assert_eq!(boxed("ab\tc", 4, 2), Ok(Some(at(0, 3))));
+    assert_eq!(boxed("\t", 0, 1), Ok(Some(at(0, 0))));
+    assert_eq!(boxed("\t", 0, 0), Ok(Some(at(0, 0))));
+    assert_eq!(boxed("a\tb", 3, 0), Ok(None));
+    assert_eq!(boxed("\n\nab\nabc", 2, 0), Ok(Some(at(3, 2))));
+    assert_eq!(boxed("", 0, 0), Ok(None));
+    assert_eq!(boxed("\t", 1_000_000, 1_000_000), Ok(None));
+    assert_eq!(boxed("", 1_000_001, 0), Err(law::refusal(2)));
+    assert_eq!(boxed("", 0, 1_000_001), Err(law::refusal(2)));
+    assert_eq!(boxed("\r", u32::MAX, u32::MAX), Err(law::refusal(1)));
+    assert_eq!(law::boxed(&[], 1, 1_000_001, 0), Err(law::refusal(1)));
 }
 
 fn check_script(input: &str, output: &str) {

@@ -136,6 +136,7 @@ unsafe extern "C" {
         text_len: usize,
         used: usize,
         cells: u32,
+        tab: u32,
     ) -> Place;
 
     pub(crate) fn winchbarn_shift_position(

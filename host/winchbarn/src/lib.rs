@@ -61,7 +61,8 @@ pub const TEXT_LIMIT: usize = 16_384;
 /// the room that each list of an inverse may need.
 pub const LIST_LIMIT: usize = 256;
 
-/// The largest number that an edit, its lists, and a position or selection that is shifted may have.
+/// The largest number that an edit, its lists, and a position or selection that is shifted may have; and the most cells that a
+/// box or a tab may have.
 pub const NUMBER_LIMIT: u32 = 1_000_000;
 
 /// The most digits that a line may have.
@@ -288,10 +289,26 @@ pub fn clamp_position(text: &[u32], used: usize, pos: Position) -> Result<Positi
     Ok(place.at)
 }
 
-/// The first row with more characters than a box has cells, and the column where it leaves; `None` where all rows fit.
-/// Refuses by 1. Stack: [`stack::BOX_FIT`].
-pub fn box_fit(text: &[u32], used: usize, cells: u32) -> Result<Option<Position>, Refusal> {
-    found(raw::box_fit(text, used, cells))
+/// The first row that is wider than a box of so many cells, and the column of its first character whose last cell lies outside;
+/// `None` where all rows fit. A character takes two cells where it is Wide or Fullwidth in UAX #11, by EastAsianWidth.txt of
+/// Unicode 15.0.0, and one otherwise, also where it is combining; a tab runs to the next multiple of the tab width, 0 acting as 1,
+/// counted in cells from the row's start, and takes one at least; a line feed takes none. Refuses by 1, then 2. Stack: [`stack::BOX_FIT`].
+///
+/// ```
+/// use winchbarn::{Position, box_fit};
+///
+/// let text: Vec<u32> = "aあ\n\tい".chars().map(u32::from).collect();
+/// assert_eq!(box_fit(&text, text.len(), 6, 4), Ok(None));
+/// assert_eq!(box_fit(&text, text.len(), 5, 4), Ok(Some(Position { row: 1, col: 1 })));
+/// assert_eq!(box_fit(&text, text.len(), 2, 4), Ok(Some(Position { row: 0, col: 1 })));
+/// ```
+pub fn box_fit(
+    text: &[u32],
+    used: usize,
+    cells: u32,
+    tab: u32,
+) -> Result<Option<Position>, Refusal> {
+    found(raw::box_fit(text, used, cells, tab))
 }
 
 /// Where a position goes when the edit is made to the view's text; the pads of [`Kind::DeleteBlockChunks`] are left out of

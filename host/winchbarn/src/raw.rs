@@ -325,8 +325,8 @@ pub fn clamp_position(text: &[u32], used: usize, pos: Position) -> Place {
     unsafe { ffi::winchbarn_clamp_position(text.as_ptr(), text.len(), used, pos) }
 }
 
-pub fn box_fit(text: &[u32], used: usize, cells: u32) -> Place {
-    unsafe { ffi::winchbarn_box_fit(text.as_ptr(), text.len(), used, cells) }
+pub fn box_fit(text: &[u32], used: usize, cells: u32, tab: u32) -> Place {
+    unsafe { ffi::winchbarn_box_fit(text.as_ptr(), text.len(), used, cells, tab) }
 }
 
 pub fn shift_position(

@@ -11,8 +11,8 @@ pub enum Refusal {
     /// 1: a used length over the buffer or [`TEXT_LIMIT`](crate::TEXT_LIMIT); a value in the text that is not admitted. Where
     /// UTF-8 is written: a value that is no Unicode scalar.
     BadText,
-    /// 2: a number over [`NUMBER_LIMIT`](crate::NUMBER_LIMIT): one that the edit's kind uses, items of its lists included, or
-    /// one of what is shifted.
+    /// 2: a number over [`NUMBER_LIMIT`](crate::NUMBER_LIMIT): one that the edit's kind uses, items of its lists included, one
+    /// of what is shifted, a box's cells or a tab width.
     TooBig,
     /// 3: a list of the edit with more than [`LIST_LIMIT`](crate::LIST_LIMIT) items, a `DeleteBlock` that spans more rows, a
     /// join that would make more joins; a payload of more than [`TEXT_LIMIT`](crate::TEXT_LIMIT) characters; selections of

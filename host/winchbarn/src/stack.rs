@@ -30,7 +30,7 @@ pub const SET_CURSOR: usize = 2 * KB;
 /// [`clamp_position`](crate::clamp_position)
 pub const CLAMP_POSITION: usize = 2 * KB;
 /// [`box_fit`](crate::box_fit)
-pub const BOX_FIT: usize = 2 * KB;
+pub const BOX_FIT: usize = 4 * KB;
 /// [`shift_position`](crate::shift_position)
 pub const SHIFT_POSITION: usize = 4 * KB;
 /// [`shift_sel`](crate::shift_sel)

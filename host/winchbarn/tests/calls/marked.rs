@@ -1,4 +1,4 @@
-//! Document 01's marked examples, by their numbers, and an accepted call of each function that they do not reach.
+//! Document 01's marked examples, by their numbers, what document 02 says of the box, and an accepted call of each function that they do not reach.
 
 use crate::support::{Buffer, Whole, at, edit, scalars};
 use winchbarn::*;
@@ -225,11 +225,63 @@ fn a_frame_is_applied_as_its_edit_and_its_inverse_is_written_as_in_the_script() 
     assert_eq!(line[digits..], [b'.'; 64][digits..]);
 }
 
+fn boxed(text: &str, cells: u32, tab: u32) -> Option<Position> {
+    let text = scalars(text);
+    box_fit(&text, text.len(), cells, tab).expect("the box is answered")
+}
+
 #[test]
 fn the_box_is_left_at_its_first_overlong_row() {
-    let text = scalars("ab\nabcd\nabcde");
-    assert_eq!(box_fit(&text, text.len(), 3), Ok(Some(at(1, 3))));
-    assert_eq!(box_fit(&text, text.len(), 5), Ok(None));
+    let text = "ab\nabcd\nabcde";
+    assert_eq!(boxed(text, 3, 8), Some(at(1, 3)));
+    assert_eq!(boxed(text, 5, 8), None);
+    assert_eq!(boxed("\n\na", 0, 8), Some(at(2, 0)));
+    assert_eq!(boxed("\n\n", 0, 8), None);
+}
+
+#[test]
+fn kana_take_two_cells_and_leave_by_their_last() {
+    assert_eq!(boxed("aあ", 2, 8), Some(at(0, 1)));
+    assert_eq!(boxed("aあ", 3, 8), None);
+    assert_eq!(boxed("あ", 1, 8), Some(at(0, 0)));
+    assert_eq!(boxed("あ", 2, 8), None);
+    assert_eq!(boxed("ab\nあい\nうえお", 4, 8), Some(at(2, 2)));
+}
+
+#[test]
+fn a_tab_runs_to_the_next_multiple_of_its_width() {
+    assert_eq!(boxed("a\t", 4, 8), Some(at(0, 1)));
+    assert_eq!(boxed("a\t", 8, 8), None);
+    assert_eq!(boxed("abcd\t", 7, 4), Some(at(0, 4)));
+    assert_eq!(boxed("abcd\t", 8, 4), None);
+    assert_eq!(boxed("あ\tい", 6, 4), None);
+    assert_eq!(boxed("a\tb", 3, 0), None);
+    assert_eq!(boxed("a\tb", 3, 1), None);
+    assert_eq!(boxed("\t", 0, 1), Some(at(0, 0)));
+    assert_eq!(boxed("\t", 0, 0), Some(at(0, 0)));
+    assert_eq!(boxed("\t", 1, 0), None);
+}
+
+#[test]
+fn wide_and_fullwidth_are_two_cells_and_all_else_is_one() {
+    for wide in ["あ", "漢", "Ａ", "　", "한", "😀", "\u{fada}", "\u{3fffd}"] {
+        assert_eq!(boxed(wide, 1, 8), Some(at(0, 0)), "{wide:?}");
+        assert_eq!(boxed(wide, 2, 8), None, "{wide:?}");
+    }
+    for narrow in [
+        "a",
+        "é",
+        "ｱ",
+        "¡",
+        "\0",
+        "\u{301}",
+        "\u{200b}",
+        "\u{feff}",
+        "\u{2fffe}",
+    ] {
+        assert_eq!(boxed(narrow, 0, 8), Some(at(0, 0)), "{narrow:?}");
+        assert_eq!(boxed(narrow, 1, 8), None, "{narrow:?}");
+    }
 }
 
 #[test]

@@ -105,7 +105,29 @@ fn clamping_and_the_box_in_no_text() {
         Err(Refusal::BadText)
     );
     assert_eq!(clamp_position(&carriage_return, 1, at(0, 9)), Ok(at(0, 1)));
-    assert_eq!(box_fit(&carriage_return, 4, 9), Err(Refusal::BadText));
+    assert_eq!(box_fit(&carriage_return, 4, 9, 8), Err(Refusal::BadText));
+    assert_eq!(box_fit(&carriage_return, 3, 9, 8), Err(Refusal::BadText));
+    assert_eq!(box_fit(&carriage_return, 1, 9, 8), Ok(None));
+}
+
+#[test]
+fn a_box_or_a_tab_too_wide() {
+    let over = NUMBER_LIMIT + 1;
+    let tab = scalars("\ta");
+    for (cells, width) in [
+        (over, 8),
+        (8, over),
+        (over, over),
+        (u32::MAX, 0),
+        (0, u32::MAX),
+    ] {
+        assert_eq!(box_fit(&tab, 2, cells, width), Err(Refusal::TooBig));
+        assert_eq!(box_fit(&[], 0, cells, width), Err(Refusal::TooBig));
+        assert_eq!(box_fit(&tab, 3, cells, width), Err(Refusal::BadText));
+    }
+    let at_limit = |used| box_fit(&tab, used, NUMBER_LIMIT, NUMBER_LIMIT);
+    assert_eq!(at_limit(1), Ok(None));
+    assert_eq!(at_limit(2), Ok(Some(at(0, 1))));
 }
 
 #[test]

@@ -1,0 +1,4 @@
+pub mod Tables
+pub mod Examples
+pub mod Stops
+pub mod Widths

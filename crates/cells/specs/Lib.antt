@@ -1,0 +1,4 @@
+pub mod Wide
+pub mod Cells
+pub mod Theorems
+pub mod Examples
