@@ -45,6 +45,14 @@ pub fn tabbed_text(count: usize, first: u32, different: u32) -> Vec<u32> {
     })
 }
 
+/// Kana and emoji in turn, in rows: no two neighbours stand in one range of wide characters.
+pub fn jumping_text(count: usize) -> Vec<u32> {
+    in_rows(count, |row, col| {
+        let first = if col % 2 == 0 { 0x3041 } else { 0x1f600 };
+        first + (row * 11 + col) % 80
+    })
+}
+
 fn row_count(text: &[u32]) -> u32 {
     text.iter().filter(|&&value| value == 0x0a).count() as u32 + 1
 }

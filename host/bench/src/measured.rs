@@ -127,6 +127,7 @@ pub fn boxes() {
     box_compared("ASCII", &cases::tabbed_text(CHARACTERS, 0x21, 94));
     box_compared("kana", &cases::tabbed_text(CHARACTERS, 0x3041, 86));
     box_compared("mixed", &cases::mixed_text(CHARACTERS));
+    box_compared("kana and emoji in turn", &cases::jumping_text(CHARACTERS));
 }
 
 fn box_compared(name: &str, opening: &[u32]) {
