@@ -5,9 +5,9 @@ use mathlib.Core.List.{List}
 use Prim.Native.Nat.{ℕ, _+_, _-_, _*_, _/_, _%_, _≤_, _<_}
 use native.Mathlib.Nat.{div-add-mod', max-eq-left, add-mul}
 use native.Mathlib.Omega.{arith}
-use borrow.Author.Tests.{eq-eqb, ne-eqb}
+use borrow.Author.Tests.{eq-eqb, ne-eqb, lt-ltb, le-ltb}
 use Rattle.cells.specs.Wide.{ranges, edges, isWide, countUpTo, odd}
-use Rattle.cells.specs.Cells.{tabStop, cellAfter}
+use Rattle.cells.specs.Cells.{tabStop, cellAfter, nearAfter}
 use Rattle.cells.proofs.Tables.{none-upto, search-agrees, table-ascends}
 
 pub stop-zero : (cell : ℕ) → cell + 1 ≡ tabStop 0 cell
@@ -49,3 +49,12 @@ module _ (tab cell x : ℕ) where
   pub after-narrow : (x ≡ 9 → ⊥) → isWide x ≡ false → cellAfter tab cell x ≡ cell + 1
   unfolding cellAfter
   after-narrow e w = rw (ne-eqb x 9 e, w)
+
+module _ (near x : ℕ) where
+  pub near-kept : x < 0x1100 → near ≡ nearAfter near x
+  unfolding nearAfter
+  near-kept h = rw (lt-ltb x 0x1100 h)
+
+  pub near-counted : (t : List ℕ) (n : ℕ) → t ≡ edges ranges → n ≡ countUpTo x t → 0x1100 ≤ x → n ≡ nearAfter near x
+  unfolding nearAfter
+  near-counted t n h e l = rw (le-ltb x 0x1100 l) (e ∙ ap (countUpTo x) h)

@@ -4,7 +4,7 @@ use mathlib.Core.List.{List, [], _∷_}
 use mathlib.Core.Option.{Option, none, some}
 use Prim.Native.Nat.{ℕ, suc, _+_, _*_, _/_, max}
 use lib.Dec.{eqb, ltb}
-use Rattle.cells.specs.Wide.{isWide}
+use Rattle.cells.specs.Wide.{ranges, isWide, edges, countUpTo}
 
 -- "a tab runs to the next multiple of a tab width, 0 acting as 1"
 unfoldable pub tabStop : ℕ → ℕ → ℕ
@@ -31,3 +31,7 @@ firstOutsideFrom cells tab cell col (x ∷ s) =
 
 abbrev pub firstOutside : ℕ → ℕ → List ℕ → Option ℕ
 firstOutside cells tab row = firstOutsideFrom cells tab 0 0 row
+
+-- where the next search begins: at the last character that was searched for, as no other is
+unfoldable pub nearAfter : ℕ → ℕ → ℕ
+nearAfter near x = cond (ltb x 0x1100) near (countUpTo x (edges ranges))

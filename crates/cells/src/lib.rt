@@ -3,7 +3,7 @@ ghost use mathlib.Core.Bool.{true};
 ghost use mathlib.Core.Path.{_≡_};
 ghost use Prim.Native.Nat.{_≤_};
 ghost use Rattle.cells.specs.Wide.{ascends, edges, ranges, countUpTo};
-ghost use Rattle.cells.specs.Cells.{tabStop, cellAfter};
+ghost use Rattle.cells.specs.Cells.{tabStop, cellAfter, nearAfter};
 
 const TAB: u32 = 9;
 
@@ -328,10 +328,10 @@ fn tab_stop(cell: u32, tab: u32) -> u32
     cell - cell % tab + tab
 }
 
-// The cell after a character that begins in this one. `near` is any number, at best the last answer's.
+// The cell after a character that begins in this one. `near` may be any number; the last answer's saves the search.
 pub fn cell_after(table: &[u32], near: usize, tab: u32, cell: u32, value: u32) -> Ended
     requires { ⌜ (now table ≡ edges ranges) × (cell ≤ 1_000_000) × (tab ≤ 1_000_000) ⌝ }
-    ensures { λ r. ⌜ r .cell ≡ cellAfter tab cell value ⌝ }
+    ensures { λ r. ⌜ (r .cell ≡ cellAfter tab cell value) × (r .near ≡ nearAfter near value) ⌝ }
 {
     if value == TAB {
         return Ended {

@@ -57,7 +57,7 @@ cols-less c = search needs
 
 cols-again : tie.Need-cols-again Inv-cols μ-cols Inv-rows μ-rows
 cols-again c = let k = c .before .before .before .before .before .before .cols in let r = c .before .before .before .before .before .before .before .before .rows in let a = c .before .before .before .before .before .before .before .before .before .before .before .args in
-    let n = c .before .cell-after .ensures in
+    let n = c .before .cell-after .ensures .0 in
     let e : cellAfter (a .tab) (k .cell) (getD (a .text .now) (k .i) 0) ≤ a .cells = rw n at (c .if2 .left) in (
       omega arith,
       omega arith,
@@ -94,7 +94,7 @@ returns c = let r = c .before .rows in let a = c .before .before .before .before
 
 returns-2 : tie.Need-returns-2 Inv-cols μ-cols Inv-rows μ-rows
 returns-2 c = let k = c .before .before .before .before .before .before .cols in let r = c .before .before .before .before .before .before .before .before .rows in let a = c .before .before .before .before .before .before .before .before .before .before .before .args in
-    let n = c .before .cell-after .ensures in
+    let n = c .before .cell-after .ensures .0 in
     ap {B = Paper Fit} done (sym (walk-out (a .cells) (a .tab) (r .row) (k .cell) (k .col) (a .text .now) (k .i) (omega arith) (c .before .before .before .if1 .left) (rw n at (c .if2 .taken))) ∙ k .inv .6 ∙ walk-rows (a .cells) (a .tab) (a .text .now))
 
 pub first-over-spec : {M : Type 1} → statement M
