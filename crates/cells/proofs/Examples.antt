@@ -2,11 +2,11 @@
 use mathlib.Core.Path.{refl}
 use Rattle.text.specs.Text.{all}
 use Rattle.cells.specs.Wide.{isWide, wideIn, edges, ascends, countUpTo}
-use Rattle.cells.specs.Cells.{tabStop, cellAfter, widthFrom, firstOutsideFrom}
+use Rattle.cells.specs.Cells.{tabStop, cellAfter, widthFrom, firstOutsideFrom, nearAfter}
 use Rattle.cells.specs.Examples.{RuledOut, FittingRow, LongRow, RuleNeeded}
 
 pub ruled-out : RuledOut
-unfolding wideIn isWide tabStop cellAfter widthFrom firstOutsideFrom
+unfolding wideIn isWide edges countUpTo tabStop cellAfter widthFrom firstOutsideFrom nearAfter
 ruled-out = record {
   kana = refl;
   fullwidth = refl;
@@ -30,6 +30,8 @@ ruled-out = record {
   tab-kana = refl;
   half-outside = refl;
   tab-outside = refl;
+  near-kept = refl;
+  near-counted = refl;
   column = refl;
 }
 

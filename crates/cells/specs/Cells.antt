@@ -32,6 +32,6 @@ firstOutsideFrom cells tab cell col (x ∷ s) =
 abbrev pub firstOutside : ℕ → ℕ → List ℕ → Option ℕ
 firstOutside cells tab row = firstOutsideFrom cells tab 0 0 row
 
--- where the next search begins: at the last character that was searched for, as no other is
+-- what the next search tries first: the count of the last character that was searched for. What stands below the first range is not
 unfoldable pub nearAfter : ℕ → ℕ → ℕ
 nearAfter near x = cond (ltb x 0x1100) near (countUpTo x (edges ranges))

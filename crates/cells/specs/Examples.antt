@@ -7,7 +7,7 @@ use mathlib.Core.Option.{none, some}
 use lib.Dec.{eqb}
 use Rattle.text.specs.Text.{all}
 use Rattle.cells.specs.Wide.{isWide, wideIn, edges, ascends, countUpTo, odd}
-use Rattle.cells.specs.Cells.{width, firstOutside}
+use Rattle.cells.specs.Cells.{width, firstOutside, nearAfter}
 
 pub record RuledOut : Type 0 where
   -- a wide character of one cell: HIRAGANA LETTER A, FULLWIDTH LATIN CAPITAL LETTER A, IDEOGRAPHIC SPACE
@@ -39,6 +39,9 @@ pub record RuledOut : Type 0 where
   -- a character that begins inside and ends outside taken as inside
   pub half-outside : firstOutside 2 8 (97 ∷ 0x3042 ∷ []) ≡ some 1
   pub tab-outside : firstOutside 4 8 (97 ∷ 9 ∷ []) ≡ some 1
+  -- the count lost at a character that is not searched for; that of the range before kept
+  pub near-kept : nearAfter 81 97 ≡ 81
+  pub near-counted : nearAfter 81 0x3099 ≡ 83
   -- the cell for the column
   pub column : firstOutside 4 8 (0x3042 ∷ 0x3042 ∷ 97 ∷ []) ≡ some 2
 

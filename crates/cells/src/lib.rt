@@ -256,7 +256,7 @@ const WIDE: [u32; 242] = [
     0x3FFFE,
 ];
 
-// The cell after a character, and how many numbers of the table are at most the last one that was looked for in it.
+// The cell after a character, and how many numbers of the table are at most the last character that was searched for.
 pub struct Ended {
     pub cell: u32,
     pub near: usize,
