@@ -1,7 +1,7 @@
 -- The columns at which rows start once they are joined: their list, the walk of `start_col` over it, and where a position lands.
 use mathlib.Core.Path.{_≡_, refl, sym, ap, _∙_}
 use mathlib.Core.Bool.{Bool, false, cond, _||_, or-true}
-use mathlib.Core.List.{List, [], _∷_}
+use mathlib.Core.List.{List, [], _∷_, map}
 use mathlib.Core.Logic.{⊎-elim}
 use Prim.Native.Nat.{ℕ, zero, suc, _+_, _-_, _≤_, _<_, min, max}
 use native.Mathlib.Nat.{eq-or-lt-of-le, sub-zero}
@@ -13,9 +13,11 @@ use lib.ListN.{length, take, drop, getD, length-take}
 use lib.Seq.{drop-cons, drop-drop, getD-drop, getD-take}
 use Rattle.text.specs.declared.Position.{Position}
 use Rattle.text.specs.declared.Span.{Span}
-use Rattle.text.specs.Rows.{Line, line, lines, at, lastRow, rowLen, span}
+use Rattle.text.specs.Rows.{Line, line, lines, at, _⊕_, lastRow, rowLen, span}
 use Rattle.text.specs.Text.{isLF}
+use Rattle.text.proofs.Laws.{add-to-row}
 use Rattle.text.proofs.Fronts.{behind-front}
+use Rattle.edit.proofs.Maps.{mapLine, map-length}
 use Rattle.joins.specs.declared.JoinTurn.{JoinTurn}
 use Rattle.joins.specs.Turns.{gapLen, joinTurn}
 use Rattle.joins.proofs.JoinTurns.{belowOf, below-count, Starts}
@@ -24,7 +26,7 @@ use Rattle.after.specs.After.{startCols, afterJoin}
 
 -- ---- the list
 
-cols-length : (b : Bool) (n : ℕ) (rs : List (Line ℕ)) → length (startCols b n rs) ≡ length rs
+pub cols-length : {A : Type 0} (b : Bool) (n : ℕ) (rs : List (Line A)) → length (startCols b n rs) ≡ length rs
 unfolding startCols
 cols-length b n [] = refl
 cols-length b n (r ∷ rs) = ap suc (cols-length b (n + gapLen b n (length (r .body)) + length (r .body)) rs)
@@ -34,6 +36,27 @@ unfolding startCols
 cols-take b n zero rs = refl
 cols-take b n (suc k) [] = refl
 cols-take b n (suc k) (r ∷ rs) = let c : ℕ = n + gapLen b n (length (r .body)) in ap (λ (l : List ℕ). c ∷ l) (cols-take b (c + length (r .body)) k rs)
+
+pub cols-map : {A B : Type 0} (v : A → B) (b : Bool) (n : ℕ) (rs : List (Line A)) → startCols b n (map (mapLine v) rs) ≡ startCols b n rs
+unfolding startCols
+cols-map v b n [] = refl
+cols-map v b n (r ∷ rs) = rw (map-length v (r .body)) (let c : ℕ = n + gapLen b n (length (r .body)) in ap (λ (l : List ℕ). c ∷ l) (cols-map v b (c + length (r .body)) rs))
+
+-- no row begins before the one that it is joined to ends
+cols-behind : {A : Type 0} (b : Bool) (n : ℕ) (rs : List (Line A)) (k : ℕ) → k < length rs → n ≤ getD (startCols b n rs) k 0
+unfolding startCols
+cols-behind b n [] k l = absurd (omega arith)
+cols-behind b n (r ∷ rs) zero l = omega arith
+cols-behind b n (r ∷ rs) (suc k) l = let i = cols-behind b (n + gapLen b n (length (r .body)) + length (r .body)) rs k (omega arith) in omega arith
+
+pub cols-apart : {A : Type 0} (b : Bool) (n : ℕ) (rs : List (Line A)) (k m : ℕ) → k < m → m < length rs
+    → getD (startCols b n rs) k 0 + length (getD rs k (line [] []) .body) ≤ getD (startCols b n rs) m 0
+unfolding startCols
+cols-apart b n [] k m l h = absurd (omega arith)
+cols-apart b n (r ∷ rs) zero zero l h = absurd (omega arith)
+cols-apart b n (r ∷ rs) zero (suc m) l h = cols-behind b (n + gapLen b n (length (r .body)) + length (r .body)) rs m (omega arith)
+cols-apart b n (r ∷ rs) (suc k) zero l h = absurd (omega arith)
+cols-apart b n (r ∷ rs) (suc k) (suc m) l h = cols-apart b (n + gapLen b n (length (r .body)) + length (r .body)) rs k m (omega arith) (omega arith)
 
 abbrev colsOf : List ℕ → ℕ → Bool → List ℕ
 colsOf t r b = startCols b (rowLen isLF t r) (belowOf t r)
@@ -106,6 +129,10 @@ module _ (t : List ℕ) (down : ℕ) (b : Bool) (end len at left col k : ℕ) (w
 
 -- ---- where a position lands
 
+-- of the rows that a join joins
+abbrev pub joinedCols : ℕ → ℕ → Bool → List ℕ → List ℕ
+joinedCols row count b t = startCols b (rowLen isLF t row) (take (max count 1) (belowOf t row))
+
 module _ (p : Position) (row count : ℕ) (b : Bool) (t : List ℕ) where
   pub join-above : p .row .0 ≤ row → p ≡ afterJoin p row count b t
   unfolding afterJoin
@@ -115,7 +142,7 @@ module _ (p : Position) (row count : ℕ) (b : Bool) (t : List ℕ) where
       (λ l. rw (lt-ltb (p .row .0) row l)) (eq-or-lt-of-le {n = p .row .0} {m = row} h)
 
   abbrev cols : List ℕ
-  cols = startCols b (rowLen isLF t row) (take (max count 1) (belowOf t row))
+  cols = joinedCols row count b t
 
   made : length cols ≡ min (max count 1) (lastRow isLF t - row)
   made = cols-length b (rowLen isLF t row) (take (max count 1) (belowOf t row)) ∙ length-take (max count 1) (belowOf t row) ∙ rw (below-count t row)
@@ -140,3 +167,24 @@ module _ (p : Position) (row count : ℕ) (b : Bool) (t : List ℕ) where
     join-onto l s c =
         let z : m ≡ 0 → ⊥ = λ q. omega arith in
         rw (made, ← e, le-ltb (p .row .0) row (omega arith), ne-eqb (p .row .0) row (omega arith), ne-eqb m 0 z, le-leb (p .row .0) (row + m) (omega arith), col-taken l, c)
+
+module _ (row count : ℕ) (b : Bool) (t : List ℕ) where
+  -- a row that is joined, by how many stand between
+  pub join-row : (k j : ℕ) → k < length (joinedCols row count b t) → afterJoin (at (suc row + k) j) row count b t ≡ at row (getD (joinedCols row count b t) k 0 + j)
+  join-row k j h =
+      let p : Position = at (suc row + k) j in
+      let m = made p row count b t in
+      let i : ℕ = suc row + k - row - 1 in
+      let e : k ≡ i = omega arith in
+      let s : getD (joinedCols row count b t) k 0 ≡ getD (colsOf t row b) i 0 =
+      ap (λ (i : ℕ). getD (joinedCols row count b t) i 0) e ∙ col-taken p row count b t (length (joinedCols row count b t)) m (omega arith) (omega arith) in
+      sym (join-onto p row count b t (length (joinedCols row count b t)) m (omega arith) (omega arith) (getD (joinedCols row count b t) k 0) s)
+
+  -- what stands behind them
+  pub join-past : (d : Position) → afterJoin (at (suc row + length (joinedCols row count b t)) 0 ⊕ d) row count b t ≡ at (suc row) 0 ⊕ d
+  join-past d =
+      let n : ℕ = length (joinedCols row count b t) in
+      let p : Position = at (suc row + n + d .row .0) (d .col .0) in
+      let e : suc row + n + d .row .0 - n ≡ suc row + d .row .0 = omega arith in
+      rw (add-to-row (suc row + n) (d .row .0) (d .col .0), add-to-row (suc row) (d .row .0) (d .col .0))
+      (sym (join-below p row count b t n (made p row count b t) (omega arith) (omega arith)) ∙ ap (λ (r : ℕ). at r (d .col .0)) e)

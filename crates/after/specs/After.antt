@@ -46,8 +46,8 @@ afterDeleteBlock p s e =
     (cond (leb left (p .col .0)) (at (p .row .0) left) p))
 
 -- "`start_col[k]` is the column original row `row + k` begins at", where the first row below is row + 1: of rows that are joined in turn
--- onto one of `len` characters
-unfoldable pub startCols : Bool → ℕ → List (Line ℕ) → List ℕ
+-- onto one of `len` elements
+unfoldable pub startCols : {A : Type 0} → Bool → ℕ → List (Line A) → List ℕ
 startCols b len [] = []
 startCols b len (r ∷ rs) =
     let col = len + gapLen b len (length (r .body)) in

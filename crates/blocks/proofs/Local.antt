@@ -10,7 +10,7 @@ use Rattle.text.specs.Rows.{Line, line, lines, unlines, rowCount, lastRow, rowS
 use Rattle.text.specs.Text.{isLF}
 use Rattle.text.proofs.Laws.{count-last}
 use Rattle.text.proofs.Spots.{row-within}
-use Rattle.text.proofs.Ended.{unlines-append}
+use Rattle.text.proofs.Broken.{unlines-append}
 use Rattle.text.proofs.Changes.{rowOf}
 use Rattle.text.proofs.Fronts.{bared, behind-front, front-count, front-above, front-from, whole-from, rows-between, front-start}
 use Rattle.edit.specs.Edits.{putAll, padsOf, pieces, blockInserted}

@@ -10,7 +10,7 @@ use lib.Seq.{take-all, take-length, drop-length}
 use Rattle.text.specs.Rows.{Line, line, lines, charAt, at, rowCount, lastRow, rowLen, rowStart, rowEnd, offset, spliced}
 use Rattle.text.specs.Text.{isLF, all}
 use Rattle.promise.proofs.Lists.{next}
-use Rattle.text.proofs.Alls.{all-append}
+use Rattle.text.proofs.Alls.{all-append, all-replicate}
 use Rattle.text.proofs.Ended.{notLF, Plain}
 use Rattle.text.proofs.Changes.{rowOf, row-from}
 use Rattle.text.proofs.Spots.{offset-row}
@@ -41,11 +41,6 @@ put-spliced c k b = elim (decLe c (length b)) [
       rw (take-all c s l, drop-of-length-le s {i = c} l, min-eq-right g, take-length b, drop-length b) (simp (append-assoc, append-nil))
 ]
 
-plain-spaces : (n : ℕ) → Plain (replicate n 32)
-unfolding all
-plain-spaces zero = tt
-plain-spaces (suc n) = plain-spaces n
-
 -- where a chunk goes in; n and m are what the code makes of the row
 pub put-found : (t : List ℕ) (s c r n m : ℕ) → r ≤ lastRow isLF t → s ≡ rowStart isLF t r → n ≡ rowLen isLF (take (length t - s) (drop s t)) 0 → m ≡ min c n
     → record { at = charAt (s + m); pad = c - m; end = charAt (s + n) } ≡ putAt t (at r c)
@@ -70,7 +65,7 @@ module _ (t : List ℕ) (r c n : ℕ) (ns x : List ℕ) (h : r ≤ lastRow isLF 
   turned = rw (← offset-row isLF t r c h) q
 
   plain : Plain g
-  plain = all-append notLF (replicate (padAt t r c) 32) (take n x) (plain-spaces (padAt t r c)) p
+  plain = all-append notLF (replicate (padAt t r c) 32) (take n x) (all-replicate notLF (padAt t r c) 32 tt) p
 
   new-row : line (put 32 c (take n x) (rowOf t r .body)) (rowOf t r .after) ≡ newRow t r m m g
   unfolding rowLen

@@ -10,7 +10,8 @@ use Rattle.text.specs.Rows.{lines, unlines, rowCount, lastRow, rowLen, rowStart
 use Rattle.text.specs.Text.{isLF, all}
 use Rattle.text.proofs.Laws.{row-at, len-le, count-last}
 use Rattle.text.proofs.Spots.{row-within}
-use Rattle.text.proofs.Ended.{Plain, ended-at, unlines-append}
+use Rattle.text.proofs.Broken.{unlines-append}
+use Rattle.text.proofs.Ended.{Plain, ended-at}
 use Rattle.text.proofs.Changes.{rowOf, rows-below}
 use Rattle.text.proofs.Turns.{newRow, Turned, from-turned}
 

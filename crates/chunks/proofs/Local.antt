@@ -11,7 +11,7 @@ use Rattle.text.specs.declared.Position.{Position}
 use Rattle.text.specs.Rows.{Line, line, lines, unlines, rowCount, lastRow, rowStart, rowEnd}
 use Rattle.text.specs.Text.{isLF, renewed}
 use Rattle.text.proofs.Spots.{row-within}
-use Rattle.text.proofs.Ended.{unlines-append}
+use Rattle.text.proofs.Broken.{unlines-append}
 use Rattle.text.proofs.Changes.{rowOf}
 use Rattle.text.proofs.Fronts.{bared, behind-front, front-count, front-above, front-from, whole-from, rows-between, front-start}
 use Rattle.splice.specs.Splice.{gapRemoved}

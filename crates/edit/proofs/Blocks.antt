@@ -21,9 +21,10 @@ use Rattle.edit.specs.Edits.{Whole, whole, Edited, edited, fromRow, put,
 use Rattle.edit.specs.Refusals.{isSpace, spaces, sum, small, smallPosition, smallRange, smallOk, few, short, fewRows, fewOk, payloadOk, withinOk, roomOk, wide}
 use Rattle.edit.specs.Call.{rangeUndoable}
 use Rattle.promise.proofs.Bools.{T-true, T-both, T-left, T-right}
-use Rattle.text.proofs.Alls.{all-append, all-left, all-right, all-take, all-drop}
+use Rattle.text.proofs.Alls.{all-append, all-left, all-right, all-take, all-drop, all-replicate}
 use Rattle.edit.proofs.Accepted.{full, Ok, Fine, Step, Back, ok-room, ok-short, ok-admissible, ok-both}
-use Rattle.text.proofs.Ended.{notLF, Plain, Ended, final, ended, lines-ended, lines-unlines}
+use Rattle.text.proofs.Broken.{final, next, lines-broken, lines-unlines}
+use Rattle.text.proofs.Ended.{notLF, Plain, Ended}
 
 -- ---- one row
 
@@ -168,12 +169,12 @@ unfolding pieces flatten
 pieces-flatten [] = refl
 pieces-flatten (k ∷ ks) = rw (take-append-seam k (flatten ks), drop-append-seam k (flatten ks), pieces-flatten ks)
 
-pub pieces-length : (ns x : List ℕ) → length (pieces ns x) ≡ length ns
+pub pieces-length : {A : Type 0} (ns : List ℕ) (x : List A) → length (pieces ns x) ≡ length ns
 unfolding pieces
 pieces-length [] x = refl
 pieces-length (n ∷ ns) x = ap suc (pieces-length ns (drop n x))
 
-pub pieces-lengths : (ns x : List ℕ) → sum ns ≤ length x → map length (pieces ns x) ≡ ns
+pub pieces-lengths : {A : Type 0} (ns : List ℕ) (x : List A) → sum ns ≤ length x → map length (pieces ns x) ≡ ns
 unfolding pieces sum
 pieces-lengths [] x h = refl
 pieces-lengths (n ∷ ns) x h = ap₂ {C = List ℕ} (λ a l. a ∷ l) (length-take n x ∙ omega arith) (pieces-lengths ns (drop n x) (omega (arith, length-drop n x)))
@@ -268,16 +269,11 @@ module _ (f : ℕ → Bool) where
       (all-append f (take (c - getD ds 0 0) b) (drop (c + w) b) (all-take f (c - getD ds 0 0) b p) (all-drop f (c + w) b p)) (alike-cut c ws (drop 1 ds) h)
 
   module _ (space : T (f 32)) where
-    spaces-all : (n : ℕ) → T (all f (replicate n 32))
-    unfolding all
-    spaces-all zero = tt
-    spaces-all (suc n) = T-both (f 32) (all f (replicate n 32)) space (spaces-all n)
-
     put-all : (c : ℕ) (k r : List ℕ) → T (all f k) → T (all f r) → T (all f (put 32 c k r))
     unfolding put
     put-all c k r p q =
         let s = r ++ replicate (c - length r) 32 in
-        let a : T (all f s) = all-append f r (replicate (c - length r) 32) q (spaces-all (c - length r)) in
+        let a : T (all f s) = all-append f r (replicate (c - length r) 32) q (all-replicate f (c - length r) 32 space) in
         all-append f (take c s) (k ++ drop c s) (all-take f c s a) (all-append f k (drop c s) p (all-drop f c s a))
 
     alike-put : (c : ℕ) (ks : Chunks) {rs : Rows} → T (all f (flatten ks)) → Each f rs → Alike f rs (putAll 32 c ks rs)
@@ -289,11 +285,11 @@ module _ (f : ℕ → Bool) where
 
 ended-each : {rs : Rows} → Ended rs → Each notLF rs
 ended-each (final b p) = more b [] p none
-ended-each (ended b p h) = more b (10 ∷ []) p (ended-each h)
+ended-each (next b x p q h) = more b (x ∷ []) p (ended-each h)
 
 alike-ended : {rs ss : Rows} → Ended rs → Alike notLF rs ss → Ended ss
 alike-ended (final b p) (more c b′ a q none) = final b′ q
-alike-ended (ended b p h) (more c b′ a q k) = ended b′ q (alike-ended h k)
+alike-ended (next b x p e h) (more c b′ a q k) = next b′ x q e (alike-ended h k)
 
 -- ---- rows changed from row j on
 
@@ -314,7 +310,7 @@ module _ (n : ℕ) (t : List ℕ) (h : Ok n t) (j : ℕ) (S : Rows) where
   changed = fromRow (lines isLF t) j S
 
   plain-below : Each notLF (drop j (lines isLF t))
-  plain-below = each-drop notLF j (ended-each (lines-ended t))
+  plain-below = each-drop notLF j (ended-each (lines-broken isLF t))
 
   each-here : Each admissible (lines isLF t)
   each-here = each-unlines admissible (lines isLF t) (rw (unlines-lines isLF t) (ok-admissible n t h))
@@ -323,7 +319,7 @@ module _ (n : ℕ) (t : List ℕ) (h : Ok n t) (j : ℕ) (S : Rows) where
   good-below = each-drop admissible j each-here
 
   lines-changed : Alike notLF (drop j (lines isLF t)) S → lines isLF changed ≡ take j (lines isLF t) ++ S
-  lines-changed s = lines-unlines (alike-ended (lines-ended t) (alike-from notLF j (ended-each (lines-ended t)) s))
+  lines-changed s = lines-unlines isLF (alike-ended (lines-broken isLF t) (alike-from notLF j (ended-each (lines-broken isLF t)) s))
 
   above-changed : Alike notLF (drop j (lines isLF t)) S → take j (lines isLF changed) ≡ take j (lines isLF t)
   above-changed s = rw (lines-changed s) (take-changed j (lines isLF t) S (alike-length notLF s))

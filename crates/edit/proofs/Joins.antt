@@ -21,24 +21,24 @@ use Rattle.edit.specs.Refusals.{isSpace, spaces, small, smallOk, fewOk, 
 use Rattle.promise.proofs.Bools.{T-both}
 use Rattle.text.proofs.Alls.{all-append, all-left, all-right}
 use Rattle.edit.proofs.Accepted.{full, Ok, Step, Back, ok-room, ok-short, ok-admissible, ok-both}
-use Rattle.text.proofs.Ended.{notLF, Ended, final, ended, lines-ended, lines-unlines, unlines-append, ended-right, ended-change}
+use Rattle.text.proofs.Broken.{Broken, next, lines-broken, lines-unlines, unlines-append, first-unbroken, first-body, broken-right, broken-change}
+use Rattle.text.proofs.Ended.{Ended, ended-lf}
 
 -- ---- one split of a row undoes one join
 
 -- each of these rows but the last ends in LF
-pub data Broken : Line ℕ → List (Line ℕ) → Type 0 where
-  one : (r : Line ℕ) → Broken r []
-  next : (b : List ℕ) {s : Line ℕ} {ss : List (Line ℕ)} → Broken s ss → Broken (line b (10 ∷ [])) (s ∷ ss)
+pub data Chained : Line ℕ → List (Line ℕ) → Type 0 where
+  one : (r : Line ℕ) → Chained r []
+  link : (b : List ℕ) {s : Line ℕ} {ss : List (Line ℕ)} → Chained s ss → Chained (line b (10 ∷ [])) (s ∷ ss)
 
-broken-take : (m : ℕ) {x : Line ℕ} {B : List (Line ℕ)} → Ended (x ∷ B) → Broken x (take m B)
-broken-take zero {x} h = one x
-broken-take (suc m) (final b p) = one (line b [])
-broken-take (suc m) (ended b p (final c q)) = next b (broken-take m (final c q))
-broken-take (suc m) (ended b p (ended c q h)) = next b (broken-take m (ended c q h))
+chained-take : (m : ℕ) {x : Line ℕ} {B : List (Line ℕ)} → Ended (x ∷ B) → Chained x (take m B)
+chained-take zero {x} h = one x
+chained-take (suc m) {x} {B = []} h = one x
+chained-take (suc m) {x} {B = y ∷ B} h = let l = ended-lf h in subst (λ (a : List ℕ). Chained (line (x .body) a) (y ∷ take m B)) (sym (l .0)) (link (x .body) (chained-take m (l .1)))
 
-broken-join : (b : Bool) (r : Line ℕ) {s : Line ℕ} {ss : List (Line ℕ)} → Broken s ss → Broken (joinNext 32 b r s) ss
-broken-join b r (one s) = one (joinNext 32 b r s)
-broken-join b r (next c h) = next (r .body ++ (gap 32 b (r .body) c ++ c)) h
+chained-join : (b : Bool) (r : Line ℕ) {s : Line ℕ} {ss : List (Line ℕ)} → Chained s ss → Chained (joinNext 32 b r s) ss
+chained-join b r (one s) = one (joinNext 32 b r s)
+chained-join b r (link c h) = link (r .body ++ (gap 32 b (r .body) c ++ c)) h
 
 unspace-gap : (b : Bool) (r s : List ℕ) → unspace isLF isSpace spaces (length (gap 32 b r s)) (gap 32 b r s ++ s) ≡ s
 unfolding gap unspace
@@ -48,25 +48,25 @@ unspace-gap true [] s = refl
 unspace-gap false r s = refl
 
 -- splitting a joined row gives back its rows
-pub split-join : (b : Bool) (r : Line ℕ) (rs : List (Line ℕ)) → Broken r rs → splitRow isLF isSpace spaces (joinRow 32 b r rs) (joinCols 32 b r rs) (joinFlags 32 b r rs) ≡ r ∷ rs
+pub split-join : (b : Bool) (r : Line ℕ) (rs : List (Line ℕ)) → Chained r rs → splitRow isLF isSpace spaces (joinRow 32 b r rs) (joinCols 32 b r rs) (joinFlags 32 b r rs) ≡ r ∷ rs
 unfolding splitRow joinRow joinCols joinFlags splitFirst
 split-join b r [] h = refl
-split-join b r (s ∷ ss) (next c h) =
+split-join b r (s ∷ ss) (link c h) =
     let g = gap 32 b c (s .body) ++ s .body in
-    rw (split-join b (joinNext 32 b (line c (10 ∷ [])) s) ss (broken-join b (line c (10 ∷ [])) h), take-append-seam c g, drop-append-seam c g, unspace-gap b c (s .body))
+    rw (split-join b (joinNext 32 b (line c (10 ∷ [])) s) ss (chained-join b (line c (10 ∷ [])) h), take-append-seam c g, drop-append-seam c g, unspace-gap b c (s .body))
 
 next-length : (b : Bool) (r s : List ℕ) → length (r ++ (gap 32 b r s ++ s)) ≡ length r + (length (gap 32 b r s) + length s)
 next-length b r s = rw (length-append r (gap 32 b r s ++ s), length-append (gap 32 b r s) s)
 
 -- and each column is within its row
-pub split-join-within : (b : Bool) (r : Line ℕ) (rs : List (Line ℕ)) → Broken r rs → T (withinAll (joinRow 32 b r rs) (joinCols 32 b r rs) (joinFlags 32 b r rs))
+pub split-join-within : (b : Bool) (r : Line ℕ) (rs : List (Line ℕ)) → Chained r rs → T (withinAll (joinRow 32 b r rs) (joinCols 32 b r rs) (joinFlags 32 b r rs))
 unfolding withinAll withinFirst joinRow joinCols joinFlags
 split-join-within b r [] h = tt
-split-join-within b r (s ∷ ss) (next c h) =
+split-join-within b r (s ∷ ss) (link c h) =
     let q = joinNext 32 b (line c (10 ∷ [])) s in
     let f = length (gap 32 b c (s .body)) in
     let l : leb (length c) (length (q .body)) ≡ true = le-leb (length c) (length (q .body)) (omega (arith, next-length b c (s .body))) in
-    let k = broken-join b (line c (10 ∷ [])) h in
+    let k = chained-join b (line c (10 ∷ [])) h in
     T-both (withinFirst (length c) f (splitRow isLF isSpace spaces (joinRow 32 b q ss) (joinCols 32 b q ss) (joinFlags 32 b q ss)))
     (withinAll (joinRow 32 b q ss) (joinCols 32 b q ss) (joinFlags 32 b q ss)) (rw (split-join b q ss k, l, or-true (eqb f 0)) tt) (split-join-within b q ss k)
 
@@ -129,24 +129,25 @@ module _ (b : Bool) (y : Line ℕ) where
 
 -- ---- characters
 
-module _ (f : ℕ → Bool) (space : T (f 32)) where
-  gap-all : (b : Bool) (r s : List ℕ) → T (all f (gap 32 b r s))
+module _ {A : Type 0} (f : A → Bool) (space : A) (passes : T (f space)) where
+  pub gap-all : (b : Bool) (r s : List A) → T (all f (gap space b r s))
   unfolding gap all
-  gap-all true (x ∷ r) (y ∷ s) = T-both (f 32) true space tt
+  gap-all true (x ∷ r) (y ∷ s) = T-both (f space) true passes tt
   gap-all true (x ∷ r) [] = tt
   gap-all true [] s = tt
   gap-all false r s = tt
 
-  next-all : (b : Bool) (r s : List ℕ) → T (all f r) → T (all f s) → T (all f (r ++ (gap 32 b r s ++ s)))
-  next-all b r s p q = all-append f r (gap 32 b r s ++ s) p (all-append f (gap 32 b r s) s (gap-all b r s) q)
+  next-all : (b : Bool) (r s : List A) → T (all f r) → T (all f s) → T (all f (r ++ (gap space b r s ++ s)))
+  next-all b r s p q = all-append f r (gap space b r s ++ s) p (all-append f (gap space b r s) s (gap-all b r s) q)
 
+module _ (f : ℕ → Bool) (space : T (f 32)) where
   one-all : (b : Bool) (x s : Line ℕ) (B : List (Line ℕ)) → T (all f (unlines (x ∷ s ∷ B))) → T (all f (unlines (joinNext 32 b x s ∷ B)))
   unfolding unlines
   one-all b x s B p =
       let below = s .after ++ unlines B in
       let q = all-right f (x .after) (s .body ++ below) (all-right f (x .body) (x .after ++ (s .body ++ below)) p) in
       all-append f (joinNext 32 b x s .body) below
-      (next-all b (x .body) (s .body) (all-left f (x .body) (x .after ++ (s .body ++ below)) p) (all-left f (s .body) below q)) (all-right f (s .body) below q)
+      (next-all f 32 space b (x .body) (s .body) (all-left f (x .body) (x .after ++ (s .body ++ below)) p) (all-left f (s .body) below q)) (all-right f (s .body) below q)
 
   -- the text after the join of x with the first m of B
   join-all : (b : Bool) (m : ℕ) (x : Line ℕ) (B : List (Line ℕ)) → T (all f (unlines (x ∷ B))) → T (all f (unlines (joinRow 32 b x (take m B) ∷ drop m B)))
@@ -163,15 +164,15 @@ module _ (f : ℕ → Bool) (space : T (f 32)) where
 
 -- ---- the rows stay those of a text
 
-next-ended : (b : Bool) {x s : Line ℕ} {B : List (Line ℕ)} → Ended (x ∷ s ∷ B) → Ended (joinNext 32 b x s ∷ B)
-next-ended b (ended c p (final d q)) = final (c ++ (gap 32 b c d ++ d)) (next-all notLF tt b c d p q)
-next-ended b (ended c p (ended d q h)) = ended (c ++ (gap 32 b c d ++ d)) (next-all notLF tt b c d p q) h
+module _ {A : Type 0} (lf : A → Bool) (space : A) (dull : T (not (lf space))) where
+  pub next-broken : (b : Bool) {x s : Line A} {B : List (Line A)} → Broken lf (x ∷ s ∷ B) → Broken lf (joinNext space b x s ∷ B)
+  next-broken b {x} {s} (next c y p e h) = first-body lf (c ++ (gap space b c (s .body) ++ s .body)) (next-all (λ y. not (lf y)) space dull b c (s .body) p (first-unbroken lf h)) h
 
-pub join-ended : (b : Bool) (m : ℕ) (x : Line ℕ) (B : List (Line ℕ)) → Ended (x ∷ B) → Ended (joinRow 32 b x (take m B) ∷ drop m B)
-unfolding joinRow
-join-ended b zero x B h = h
-join-ended b (suc m) x [] h = h
-join-ended b (suc m) x (s ∷ B) h = join-ended b m (joinNext 32 b x s) B (next-ended b h)
+  pub join-broken : (b : Bool) (m : ℕ) (x : Line A) (B : List (Line A)) → Broken lf (x ∷ B) → Broken lf (joinRow space b x (take m B) ∷ drop m B)
+  unfolding joinRow
+  join-broken b zero x B h = h
+  join-broken b (suc m) x [] h = h
+  join-broken b (suc m) x (s ∷ B) h = join-broken b m (joinNext space b x s) B (next-broken b h)
 
 -- ---- the flag that a split returns joins as the first did
 
@@ -256,13 +257,13 @@ module _ (n : ℕ) (t : List ℕ) (h : Ok n t) (A : List (Line ℕ)) (x : Line �
   flags = joinFlags 32 b x ys
 
   rows-ended : Ended (A ++ x ∷ B)
-  rows-ended = rw e at (lines-ended t)
+  rows-ended = rw e at (lines-broken isLF t)
 
   lines-u : lines isLF u ≡ A ++ z ∷ drop m B
-  lines-u = lines-unlines (ended-change A x B (z ∷ drop m B) rows-ended (join-ended b m x B (ended-right A x B rows-ended)))
+  lines-u = lines-unlines isLF (broken-change isLF A x B (z ∷ drop m B) rows-ended (join-broken isLF 32 tt b m x B (broken-right isLF A x B rows-ended)))
 
-  broken : Broken x ys
-  broken = broken-take m (ended-right A x B rows-ended)
+  chained : Chained x ys
+  chained = chained-take m (broken-right isLF A x B rows-ended)
 
   module _ (room : T (roomOk (full n) u)) where
     ok-u : Ok n u
@@ -284,7 +285,7 @@ module _ (n : ℕ) (t : List ℕ) (h : Ok n t) (A : List (Line ℕ)) (x : Line �
     same-t = rw (take-append-drop m B, ← e) (unlines-lines isLF t)
 
     undone : split isLF isSpace spaces u (length A) cols flags ≡ edited t (whole (JoinLines (rowAt (length A)) (length cols) (anyFlag flags)) [] [] []) (at (length A) 0)
-    undone = rw (split-rows u A z (drop m B) lines-u cols flags, split-join b x ys broken, same-t)
+    undone = rw (split-rows u A z (drop m B) lines-u cols flags, split-join b x ys chained, same-t)
 
     redone :
         joined isLF isSpace spaces t (length A) (length cols) (anyFlag flags)
@@ -299,7 +300,7 @@ module _ (n : ℕ) (t : List ℕ) (h : Ok n t) (A : List (Line ℕ)) (x : Line �
         smalls = T-both (small (length A) && all small cols) (all small flags) (T-both (small (length A)) (all small cols) small-A (joinCols-small b x ys (omega (arith, z-le)))) (joinFlags-all small tt tt b x ys);
         fews = rw (joinCols-length b x ys, joinFlags-length b x ys, le-leb (length ys) 256 many) tt;
         payloads = tt;
-        withins = rw (row-min u A z (drop m B) lines-u, lines-u, getD-append-seam A z (drop m B) (line [] [])) (split-join-within b x ys broken);
+        withins = rw (row-min u A z (drop m B) lines-u, lines-u, getD-append-seam A z (drop m B) (line [] [])) (split-join-within b x ys chained);
         rooms = rw undone (ok-room n t h);
       };
       text = ap (λ (d : Edited ℕ). d .text) undone;

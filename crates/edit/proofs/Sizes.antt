@@ -8,7 +8,7 @@ use Rattle.text.specs.declared.Position.{Position}
 use Rattle.text.specs.Rows.{Line, line, lines, unlines}
 use Rattle.text.specs.Text.{isLF}
 use Rattle.text.proofs.Laws.{unlines-lines}
-use Rattle.text.proofs.Ended.{unlines-append}
+use Rattle.text.proofs.Broken.{unlines-append}
 use Rattle.edit.specs.Edits.{put, putAll, pieces, cutAll, blockInserted, chunksDeleted}
 use Rattle.edit.specs.Refusals.{isSpace, spaces, sum}
 

@@ -14,7 +14,7 @@ use Rattle.text.specs.Rows.{line, lines, upto, earlier, lastRow, clamp, offset,
 use Rattle.text.specs.Text.{isLF, admissible, all}
 use Rattle.text.proofs.Laws.{end-take, last-le}
 use Rattle.text.proofs.Alls.{all-take, all-drop, all-weaker}
-use Rattle.text.proofs.Ended.{body-within}
+use Rattle.text.proofs.Broken.{body-within}
 use Rattle.edit.specs.declared.MotionKind.the-variants.{Char}
 use Rattle.edit.specs.declared.Edit.{Edit}
 use Rattle.edit.specs.declared.Edit.the-variants.{InsertStr, DeleteRange, JoinLines, Replace}

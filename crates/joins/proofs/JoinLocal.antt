@@ -8,7 +8,7 @@ use lib.ListN.{length, take, drop, getD}
 use lib.Seq.{take-suc}
 use Rattle.text.specs.Rows.{Line, line, unlines, lastRow, rowEnd}
 use Rattle.text.specs.Text.{isLF}
-use Rattle.text.proofs.Ended.{unlines-append}
+use Rattle.text.proofs.Broken.{unlines-append}
 use Rattle.text.proofs.Changes.{rowOf}
 use Rattle.text.proofs.Fronts.{bared, front-above}
 use Rattle.edit.specs.Edits.{Edited, edited, joinRow, joinCols, joinFlags}

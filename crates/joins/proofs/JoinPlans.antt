@@ -16,7 +16,8 @@ use Rattle.text.specs.declared.Span.{Span}
 use Rattle.text.specs.Rows.{Line, line, lines, unlines, lastRow, rowLen, rowEnd, span, charAt}
 use Rattle.text.specs.Text.{isLF}
 use Rattle.text.proofs.Spots.{row-within}
-use Rattle.text.proofs.Ended.{Ended, ended-at, ended-last, first-len}
+use Rattle.text.proofs.Broken.{broken-last, first-len}
+use Rattle.text.proofs.Ended.{Ended, ended-at}
 use Rattle.text.proofs.Changes.{rows-below}
 use Rattle.text.proofs.Fronts.{behind-front}
 use Rattle.edit.specs.Edits.{gap, joinRow, joined}
@@ -35,7 +36,7 @@ module _ (t : List ℕ) (r : ℕ) (h : r ≤ lastRow isLF t) where
     walked-all : k ≡ length (belowOf t r) → length t ≤ at
     unfolding unlines
     walked-all e =
-        let z : afterOf t r k ≡ [] = rw e (ended-last (rows-below t r h)) in
+        let z : afterOf t r k ≡ [] = rw e (broken-last isLF (rows-below t r h)) in
         let n : drop at t ≡ [] = w ∙ rw (z, drop-of-length-le (belowOf t r) {i = k} (omega arith)) in
         omega (arith, simp length-drop at (ap length n))
 
@@ -53,7 +54,7 @@ module _ (t : List ℕ) (r : ℕ) (h : r ≤ lastRow isLF t) where
       walked-within = omega (arith, simp length-drop at (ap length walked-lf))
 
       pub walked-len : rowLen isLF (drop (at + 1) t) 0 ≡ length (getD (belowOf t r) k (line [] []) .body)
-      walked-len = rw walked-past (first-len next-row)
+      walked-len = rw walked-past (first-len isLF next-row)
 
       pub walked-more : Walked t r (suc k) (at + 1 + length (getD (belowOf t r) k (line [] []) .body))
       unfolding unlines

@@ -10,18 +10,19 @@ use lib.ListN.{length, take, drop, length-append, length-drop}
 use lib.Seq.{drop-append-add, take-append-seam, take-all}
 use Rattle.text.specs.Rows.{Line, line, unlines, rowLen, spliced}
 use Rattle.text.specs.Text.{isLF}
-use Rattle.text.proofs.Ended.{Ended, unlines-append, ended-lf, first-len}
+use Rattle.text.proofs.Broken.{unlines-append, first-len}
+use Rattle.text.proofs.Ended.{Ended, ended-lf}
 use Rattle.edit.specs.Edits.{gap}
 use Rattle.joins.specs.Turns.{gapLen, joinTurn}
 
 -- ---- what comes between two rows, from their lengths
 
-pub gap-length : (b : Bool) (r s : List ℕ) → length (gap 32 b r s) ≡ gapLen b (length r) (length s)
+pub gap-length : {A : Type 0} (space : A) (b : Bool) (r s : List A) → length (gap space b r s) ≡ gapLen b (length r) (length s)
 unfolding gap gapLen
-gap-length true (x ∷ r) (y ∷ s) = rw (lt-ltb 0 (suc (length r)) (omega arith), lt-ltb 0 (suc (length s)) (omega arith))
-gap-length true (x ∷ r) [] = rw (lt-ltb 0 (suc (length r)) (omega arith))
-gap-length true [] s = refl
-gap-length false r s = refl
+gap-length space true (x ∷ r) (y ∷ s) = rw (lt-ltb 0 (suc (length r)) (omega arith), lt-ltb 0 (suc (length s)) (omega arith))
+gap-length space true (x ∷ r) [] = rw (lt-ltb 0 (suc (length r)) (omega arith))
+gap-length space true [] s = refl
+gap-length space false r s = refl
 
 pub gap-take : (b : Bool) (r s : List ℕ) → take (gapLen b (length r) (length s)) (32 ∷ []) ≡ gap 32 b r s
 unfolding gap gapLen
@@ -74,7 +75,7 @@ module _ (A : List (Line ℕ)) (z y : Line ℕ) (C : List (Line ℕ)) (h : Ended
   lf-within = rw around (omega (arith, front-length, length-append front (10 ∷ unlines (y ∷ C))))
 
   pub next-len : rowLen isLF (drop (length (unlines A) + length (z .body) + 1) (unlines (A ++ z ∷ y ∷ C))) 0 ≡ length (y .body)
-  next-len = rw around-drop (first-len (ended-lf h .1))
+  next-len = rw around-drop (first-len isLF (ended-lf h .1))
 
   pub join-spliced : (g : List ℕ) → unlines (A ++ line (z .body ++ (g ++ y .body)) (y .after) ∷ C) ≡ spliced (unlines (A ++ z ∷ y ∷ C)) (length (unlines A) + length (z .body)) (length (unlines A) + length (z .body) + 1) g
   unfolding unlines

@@ -73,7 +73,7 @@ module _ (text₀ cols₀ flags₀ : List ℕ) (used r : ℕ) (b : Bool) (text c
     store-gap = turn-gap t₀ r h b k l j left (s .left-is) store-len (rw e)
 
     store-put : take (j .gap) (32 ∷ []) ≡ gap 32 b (rowTo t₀ r b k .body) (y₀ .body)
-    store-put = rw (store-gap, gap-length b (rowTo t₀ r b k .body) (y₀ .body)) (gap-take b (rowTo t₀ r b k .body) (y₀ .body))
+    store-put = rw (store-gap, gap-length 32 b (rowTo t₀ r b k .body) (y₀ .body)) (gap-take b (rowTo t₀ r b k .body) (y₀ .body))
 
     pub store-sizes : (j .gap ≤ 1) × (start + left + 1 + j .len ≤ n)
     store-sizes =

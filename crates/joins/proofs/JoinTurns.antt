@@ -14,7 +14,7 @@ use Rattle.text.proofs.Ended.{Ended}
 use Rattle.text.proofs.Changes.{rowOf, row-from, rows-around, rows-below}
 use Rattle.edit.specs.Edits.{gap, joinNext, joinRow, joined}
 use Rattle.edit.specs.Refusals.{isSpace, spaces}
-use Rattle.edit.proofs.Joins.{join-ended, joinCols-length, joinFlags-length, joinRow-snoc, joinCols-snoc, joinFlags-snoc}
+use Rattle.edit.proofs.Joins.{join-broken, joinCols-length, joinFlags-length, joinRow-snoc, joinCols-snoc, joinFlags-snoc}
 use Rattle.joins.specs.declared.JoinTurn.{JoinTurn}
 use Rattle.joins.specs.Turns.{gapLen, joinTurn, joins}
 use Rattle.text.proofs.Texts.{front}
@@ -62,7 +62,7 @@ module _ (t : List ℕ) (r : ℕ) (h : r ≤ lastRow isLF t) (b : Bool) (k : ℕ
   below-snoc = take-suc (belowOf t r) k (line [] []) l
 
   ended-now : Ended (rowTo t r b k ∷ y ∷ drop (suc k) (belowOf t r))
-  ended-now = rw (← below-cons) (join-ended b k (rowOf t r) (belowOf t r) (rows-below t r h))
+  ended-now = rw (← below-cons) (join-broken isLF 32 tt b k (rowOf t r) (belowOf t r) (rows-below t r h))
 
   row-next : rowTo t r b (suc k) ≡ joinNext 32 b (rowTo t r b k) y
   row-next = rw below-snoc (joinRow-snoc b y (rowOf t r) (take k (belowOf t r)))
@@ -94,7 +94,7 @@ module _ (t : List ℕ) (r : ℕ) (h : r ≤ lastRow isLF t) (b : Bool) (k : ℕ
   row-size = rw (turn .row) (simp length-append)
 
   pub turn-gap : (j : JoinTurn) (left : ℕ) → left ≡ length (rowTo t r b k .body) → j .len ≡ length (y .body) → j .gap ≡ gapLen b left (j .len) → j .gap ≡ length (gap 32 b (rowTo t r b k .body) (y .body))
-  turn-gap j left e l g = g ∙ rw (l, e) (sym (gap-length b (rowTo t r b k .body) (y .body)))
+  turn-gap j left e l g = g ∙ rw (l, e) (sym (gap-length 32 b (rowTo t r b k .body) (y .body)))
 
 -- a text and a space as they are lent
 pub turn-lent : (text : List ℕ) (n e left : ℕ) (b : Bool) (j : JoinTurn) → j ≡ joinTurn (take (n - 0) (drop 0 text)) e left b → j ≡ joinTurn (take n text) e left b
@@ -121,7 +121,7 @@ joins-small t r b zero h l = omega (arith, ap length (joins-none t r b h))
 joins-small t r b (suc k) h l =
     let y = getD (belowOf t r) k (line [] []) in
     let z = rowTo t r b k in
-    omega (arith, joins-small t r b k h (omega arith), turn-size t r h b k l, gap-length b (z .body) (y .body), gap-one b (length (z .body)) (length (y .body)))
+    omega (arith, joins-small t r b k h (omega arith), turn-size t r h b k l, gap-length 32 b (z .body) (y .body), gap-one b (length (z .body)) (length (y .body)))
 
 -- row r begins the walk
 pub record Starts (t : List ℕ) (r end len : ℕ) : Type 0 where

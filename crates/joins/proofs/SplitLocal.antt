@@ -8,7 +8,7 @@ use lib.ListN.{length, take, drop, getD, length-append}
 use lib.Seq.{take-append-le, drop-append-le}
 use Rattle.text.specs.Rows.{Line, line, unlines, lastRow, rowEnd, span, spliced}
 use Rattle.text.specs.Text.{isLF}
-use Rattle.text.proofs.Ended.{unlines-append}
+use Rattle.text.proofs.Broken.{unlines-append}
 use Rattle.text.proofs.Changes.{rowOf}
 use Rattle.text.proofs.Fronts.{bared, behind-front, front-above}
 use Rattle.edit.specs.Edits.{splitRow, split}

@@ -14,7 +14,7 @@ use Rattle.promise.proofs.Lists.{next, take-min, take-both}
 use Rattle.text.specs.declared.CharOffset.{CharOffset}
 use Rattle.text.specs.Rows.{Line, line, unlines, charAt, spliced}
 use Rattle.text.specs.Text.{isLF}
-use Rattle.text.proofs.Ended.{unlines-append}
+use Rattle.text.proofs.Broken.{unlines-append}
 use Rattle.edit.specs.Edits.{unspace, splitFirst, splitRow, anyFlag}
 use Rattle.edit.specs.Refusals.{isSpace, spaces}
 use Rattle.joins.specs.Turns.{goneAt, splitTurn}

@@ -14,7 +14,7 @@ use Rattle.text.specs.Rows.{Line, line, lines, unlines, lastRow, rowLen, rowSta
 use Rattle.text.specs.Text.{isLF}
 use Rattle.text.proofs.Laws.{unlines-lines}
 use Rattle.text.proofs.Walks.{span-parts}
-use Rattle.text.proofs.Ended.{unlines-append}
+use Rattle.text.proofs.Broken.{unlines-append}
 use Rattle.text.proofs.Changes.{rowOf, rows-around, text-around}
 use Rattle.edit.specs.Edits.{splitRow, split}
 use Rattle.edit.specs.Refusals.{isSpace, spaces, withinFirst, withinAll}

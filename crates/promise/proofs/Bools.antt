@@ -1,6 +1,6 @@
 -- Laws of tests that the toolchain's library lacks.
 use mathlib.Core.Path.{_≡_, refl, sym, _∙_}
-use mathlib.Core.Bool.{Bool, true, false, _&&_, _||_, true≢false, and-false, or-true}
+use mathlib.Core.Bool.{Bool, true, false, not, _&&_, _||_, true≢false, and-false, or-true}
 use mathlib.Core.Logic.{_⊎_, inl, inr}
 use lib.Dec.{T}
 
@@ -46,6 +46,10 @@ or-swap false b c = refl
 pub T-true : (b : Bool) → T b → b ≡ true
 T-true true p = refl
 T-true false p = absurd p
+
+pub T-not : (b : Bool) → T (not b) → b ≡ false
+T-not true p = absurd p
+T-not false p = refl
 
 pub T-both : (a b : Bool) → T a → T b → T (a && b)
 T-both true b p q = q

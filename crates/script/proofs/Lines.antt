@@ -5,7 +5,8 @@ use mathlib.Core.List.{List, [], _∷_, _++_, append-nil, append-assoc}
 use Prim.Native.Nat.{ℕ}
 use Rattle.text.specs.Rows.{line, lines}
 use Rattle.text.specs.Text.{isLF}
-use Rattle.text.proofs.Ended.{Plain, plain-front}
+use Rattle.text.proofs.Broken.{front-row}
+use Rattle.text.proofs.Ended.{Plain}
 use Rattle.loading.specs.States.{State, textIn}
 use Rattle.step.specs.Steps.{step}
 use Rattle.feed.specs.Scripts.{lineStep, run}
@@ -24,7 +25,7 @@ both-plain (more p ps) q = more p (both-plain ps q)
 
 first-row : (l rest : List ℕ) → Plain l → lines isLF (l ++ (10 ∷ rest)) ≡ line l (10 ∷ []) ∷ lines isLF rest
 unfolding lines
-first-row l rest p = plain-front l (10 ∷ rest) (line [] (10 ∷ [])) (lines isLF rest) p refl ∙ rw append-nil
+first-row l rest p = front-row isLF l (10 ∷ rest) (line [] (10 ∷ [])) (lines isLF rest) p refl ∙ rw append-nil
 
 module _ (s : State) (l rest : List ℕ) (p : Plain l) where
   pub run-row : run s (lines isLF (l ++ (10 ∷ rest))) ≡ step s l .printed ++ run (step s l .state) (lines isLF rest)

@@ -17,7 +17,7 @@ use Rattle.text.proofs.Spots.{clamp-within}
 use Rattle.text.proofs.Changes.{rowOf, row-exists, rows-changed, rows-below}
 use Rattle.edit.specs.Edits.{joinRow, corner, height, breadth, joined, blockInserted, chunksDeleted}
 use Rattle.edit.specs.Refusals.{isSpace, spaces, sum}
-use Rattle.edit.proofs.Joins.{join-ended}
+use Rattle.edit.proofs.Joins.{join-broken}
 use Rattle.edit.proofs.Sizes.{growth, blockInserted-length, growth-row, loss, chunksDeleted-length, loss-row}
 use Rattle.after.specs.After.{afterDeleteBlock, afterJoin, afterInsertBlock, afterDeleteBlockChunks}
 use Rattle.shift.proofs.Still.{same, join-nothing, PastRows, past-rows}
@@ -34,7 +34,7 @@ no-join t row n b e =
     let m : ℕ = max n 1 in
     let B : List (Line ℕ) = drop (suc r) L in
     let new : List (Line ℕ) = joinRow 32 b (rowOf t r) (take m B) ∷ drop m B in
-    let q = rows-changed t r h new (join-ended b m (rowOf t r) B (rows-below t r h)) in
+    let q = rows-changed t r h new (join-broken isLF 32 tt b m (rowOf t r) B (rows-below t r h)) in
     let s = ap length (sym (ap (lines isLF) e) ∙ q) in
     let l = row-exists t (lastRow isLF t) (omega arith) in
     omega (arith, s, length-append (take r L) new, length-take-le r L (omega arith), length-drop m B, length-drop (suc r) L)

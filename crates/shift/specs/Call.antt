@@ -1,6 +1,7 @@
 -- The whole call of a shift. Nothing that is lent is written.
 use mathlib.Core.Bool.{Bool, true, cond, not, _&&_}
 use mathlib.Core.List.{List, [], _∷_}
+use mathlib.Core.Path.{_≡_}
 use Prim.Native.Nat.{ℕ}
 use lib.Dec.{leb}
 use lib.ListN.{take}
@@ -18,7 +19,8 @@ use Rattle.edit.specs.Refusals.{smallPosition, smallOk, fewOk, payloadOk}
 use Rattle.edit.specs.Call.{firstOf}
 use Rattle.select.specs.declared.Sel.{Sel}
 use Rattle.select.specs.Sels.{sel}
-use Rattle.shift.specs.Answers.{Followed, to, dropped}
+use Rattle.shift.specs.declared.Shifted.{Shifted}
+use Rattle.shift.specs.Answers.{Followed, to, dropped, paperShifted}
 use Rattle.shift.specs.Kinds.{shifted}
 
 -- 6 Reversed: "shift only: Char or Replace start after end, Line start row after end row"
@@ -51,6 +53,10 @@ shiftTests buffer used e x f s small =
 unfoldable pub positionShifted : List ℕ → ℕ → Edit → List ℕ → List ℕ → List ℕ → Position → Paper (Followed Position)
 positionShifted buffer used e x f s p =
     firstOf (shiftTests buffer used e x f s (smallPosition p)) (done (shifted (take used buffer) e x f p))
+
+-- What `shift_position` promises.
+abbrev pub ShiftPromised : Shifted → List ℕ → ℕ → Edit → List ℕ → List ℕ → List ℕ → Position → Type 0
+ShiftPromised r buffer used e x f s p = paperShifted r ≡ positionShifted buffer used e x f s p
 
 -- "either the whole selection survives the edit or the whole selection is dropped"; "Shifts don't reorder ends."
 abbrev pub both : Followed Position → Followed Position → Followed Sel

@@ -19,8 +19,8 @@ ghost use Prim.Native.Nat.{_≤_};
 ghost use lib.ListN.{length};
 ghost use Rattle.text.specs.Text.{textLimit};
 ghost use Rattle.edit.specs.Refusals.{smallOk, fewOk};
-ghost use Rattle.shift.specs.Answers.{paperShifted, paperSelShifted, paperCarried};
-ghost use Rattle.shift.specs.Call.{orderedOk, positionShifted, selShifted, carriedOver};
+ghost use Rattle.shift.specs.Answers.{paperSelShifted, paperCarried};
+ghost use Rattle.shift.specs.Call.{orderedOk, ShiftPromised, selShifted, carriedOver};
 
 // The position after the edit, or that it cannot be followed, or the refusal.
 pub enum Shifted {
@@ -57,7 +57,7 @@ pub fn shift_position(
     second: &[u32],
     pos: Position,
 ) -> Shifted
-    ensures { λ r. ⌜ paperShifted r ≡ positionShifted (now (buffer .entry)) (view .used) edit (now (payload .entry)) (now (first .entry)) (now (second .entry)) pos ⌝ }
+    ensures { λ r. ⌜ ShiftPromised r (now (buffer .entry)) (view .used) edit (now (payload .entry)) (now (first .entry)) (now (second .entry)) pos ⌝ }
 {
     let used = view.used;
     let small = small_position(pos);

@@ -8,7 +8,8 @@ use lib.Seq.{drop-cons, take-append-le, drop-append-le, take-append-add, drop-ap
 use Rattle.text.specs.Rows.{Line, line, lines, unlines, rowCount, lastRow, rowStart, spliced}
 use Rattle.text.specs.Text.{isLF}
 use Rattle.text.proofs.Laws.{unlines-lines, count-last}
-use Rattle.text.proofs.Ended.{Ended, lines-ended, lines-unlines, unlines-append, ended-right, ended-change}
+use Rattle.text.proofs.Broken.{lines-broken, lines-unlines, unlines-append, broken-right, broken-change}
+use Rattle.text.proofs.Ended.{Ended}
 
 abbrev pub rowOf : List ℕ → ℕ → Line ℕ
 rowOf t r = getD (lines isLF t) r (line [] [])
@@ -31,11 +32,11 @@ module _ (t : List ℕ) (r : ℕ) (h : r ≤ lastRow isLF t) where
   -- the rows from r on replaced by others, with what ends them as a text has it
   pub rows-changed : (new : List (Line ℕ)) → Ended new → lines isLF (unlines (take r (lines isLF t) ++ new)) ≡ take r (lines isLF t) ++ new
   rows-changed new k =
-      let e : Ended (take r (lines isLF t) ++ rowOf t r ∷ drop (suc r) (lines isLF t)) = rw (← rows-around) (lines-ended t) in
-      lines-unlines (ended-change (take r (lines isLF t)) (rowOf t r) (drop (suc r) (lines isLF t)) new e k)
+      let e : Ended (take r (lines isLF t) ++ rowOf t r ∷ drop (suc r) (lines isLF t)) = rw (← rows-around) (lines-broken isLF t) in
+      lines-unlines isLF (broken-change isLF (take r (lines isLF t)) (rowOf t r) (drop (suc r) (lines isLF t)) new e k)
 
   pub rows-below : Ended (rowOf t r ∷ drop (suc r) (lines isLF t))
-  rows-below = ended-right (take r (lines isLF t)) (rowOf t r) (drop (suc r) (lines isLF t)) (rw (← rows-around) (lines-ended t))
+  rows-below = broken-right isLF (take r (lines isLF t)) (rowOf t r) (drop (suc r) (lines isLF t)) (rw (← rows-around) (lines-broken isLF t))
 
   pub text-around : t ≡ unlines (take r (lines isLF t)) ++ (wholeRow (rowOf t r) ++ unlines (drop (suc r) (lines isLF t)))
   unfolding unlines

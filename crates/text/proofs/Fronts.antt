@@ -7,7 +7,8 @@ use lib.ListN.{length, take, drop, length-append, length-drop}
 use lib.Seq.{take-take, take-append-le, drop-append-le, take-append-add, drop-append-add, take-append-seam, drop-append-seam, length-take-le}
 use Rattle.text.specs.Rows.{Line, line, lines, unlines, rowCount, lastRow, rowLen, rowStart, rowEnd}
 use Rattle.text.specs.Text.{isLF}
-use Rattle.text.proofs.Ended.{Ended, final, ended, unlines-append}
+use Rattle.text.proofs.Broken.{final, next, unlines-append}
+use Rattle.text.proofs.Ended.{Ended}
 use Rattle.text.proofs.Changes.{rowOf, wholeRow, row-exists, rows-around, rows-changed, rows-below, text-around}
 
 -- a row without what ends it
@@ -16,7 +17,7 @@ bared x = line (x .body) []
 
 ended-bared : {x : Line ℕ} {B : List (Line ℕ)} → Ended (x ∷ B) → Ended (bared x ∷ [])
 ended-bared (final b p) = final b p
-ended-bared (ended b p h) = final b p
+ended-bared (next b x p q h) = final b p
 
 module _ (t : List ℕ) (j : ℕ) (h : j ≤ lastRow isLF t) where
   front-text : take (rowEnd isLF t j) t ≡ unlines (take j (lines isLF t) ++ bared (rowOf t j) ∷ [])

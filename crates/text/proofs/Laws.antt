@@ -6,7 +6,7 @@ use Prim.Native.Nat.{ℕ, zero, suc, _≤_, _+_, _-_, _<_, min}
 use native.Mathlib.Omega.{arith}
 use lib.ListN.{length, take, drop}
 use Rattle.text.specs.Rows.{Line, line, onto, lines, unlines, rowCount, rowLen, rowStart, lastRow, clamp, offset, endOf, at, _⊕_}
-use native.Mathlib.Nat.{zero-add, add-assoc, sub-zero, suc-sub-suc}
+use native.Mathlib.Nat.{add-zero, zero-add, add-assoc, sub-zero, suc-sub-suc}
 use borrow.Author.Tests.{ne-eqb}
 use Rattle.text.specs.Theorems.{weld}
 use Rattle.text.specs.declared.Position.{Position}
@@ -121,11 +121,11 @@ module _ {A : Type 0} where
 
 -- ---- adding positions
 
-add-same : (a b c : ℕ) → at a b ⊕ at 0 c ≡ at a (b + c)
+pub add-same : (a b c : ℕ) → at a b ⊕ at 0 c ≡ at a (b + c)
 unfolding _⊕_
 add-same a b c = refl
 
-add-next : (a b r c : ℕ) → 0 < r → at a b ⊕ at r c ≡ at (a + r) c
+pub add-next : (a b r c : ℕ) → 0 < r → at a b ⊕ at r c ≡ at (a + r) c
 unfolding _⊕_
 add-next a b r c h = rw (ne-eqb r 0 (omega arith))
 
@@ -135,6 +135,14 @@ origin (suc r) c = add-next 0 0 (suc r) c (omega arith) ∙ rw zero-add
 
 pub add-origin : (p : Position) → at 0 0 ⊕ p ≡ p
 add-origin p = origin (p .row .0) (p .col .0)
+
+pub add-nothing : (p : Position) → p ⊕ at 0 0 ≡ p
+add-nothing p = add-same (p .row .0) (p .col .0) 0 ∙ rw add-zero
+
+-- from the start of a row on, rows are added
+pub add-to-row : (a r c : ℕ) → at a 0 ⊕ at r c ≡ at (a + r) c
+add-to-row a zero c = rw (add-same a 0 c, zero-add, add-zero)
+add-to-row a (suc r) c = add-next a 0 (suc r) c (omega arith)
 
 assoc : (a b r c s d : ℕ) → (at a b ⊕ at r c) ⊕ at s d ≡ at a b ⊕ (at r c ⊕ at s d)
 assoc a b zero c zero d = rw (add-same a b c, add-same a (b + c) d, add-same 0 c d, add-same a b (c + d), add-assoc)
@@ -151,8 +159,7 @@ add-positions p q r = assoc (p .row .0) (p .col .0) (q .row .0) (q .col .0) (r .
 
 -- one element more before a text: an LF, or another
 after-lf : (l c : ℕ) → at 1 0 ⊕ at l c ≡ at (suc l) c
-after-lf zero c = add-same 1 0 c ∙ rw zero-add
-after-lf (suc l) c = let e : 1 + suc l ≡ suc (suc l) = omega arith in add-next 1 0 (suc l) c (omega arith) ∙ rw e
+after-lf l c = add-to-row 1 l c ∙ ap (λ (r : ℕ). at r c) (omega arith)
 
 after-first : (c : ℕ) → at 0 1 ⊕ at 0 c ≡ at 0 (suc c)
 after-first c = let e : 1 + c ≡ suc c = omega arith in add-same 0 1 c ∙ rw e
@@ -174,15 +181,15 @@ module _ {A : Type 0} (lf : A → Bool) where
   last-none = rw (count-none lf)
 
   -- the end of a text, from its first element
-  end-none : endOf lf [] ≡ at 0 0
+  pub end-none : endOf lf [] ≡ at 0 0
   unfolding endOf
   end-none = rw (last-none, len-none lf)
 
-  end-lf : (x : A) (t : List A) → lf x ≡ true → endOf lf (x ∷ t) ≡ at 1 0 ⊕ endOf lf t
+  pub end-lf : (x : A) (t : List A) → lf x ≡ true → endOf lf (x ∷ t) ≡ at 1 0 ⊕ endOf lf t
   unfolding endOf
   end-lf x t e = rw (last-lf x t e, len-lf-next lf x t (lastRow lf t) e, after-lf (lastRow lf t) (rowLen lf t (lastRow lf t)))
 
-  end-other : (x : A) (t : List A) → lf x ≡ false → endOf lf (x ∷ t) ≡ at 0 1 ⊕ endOf lf t
+  pub end-other : (x : A) (t : List A) → lf x ≡ false → endOf lf (x ∷ t) ≡ at 0 1 ⊕ endOf lf t
   unfolding endOf
   end-other x t e = rw (last-other x t e) (go (lastRow lf t))
     where

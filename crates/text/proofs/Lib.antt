@@ -4,11 +4,14 @@ pub mod Texts
 pub mod Renewed
 pub mod Theorems
 pub mod Alls
+pub mod Order
+pub mod Adds
+pub mod Holds
+pub mod Broken
 pub mod Ended
 pub mod Spots
 pub mod Walks
 pub mod Changes
 pub mod Turns
-pub mod Order
 pub mod Fronts
 pub mod Examples

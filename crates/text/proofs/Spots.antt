@@ -3,6 +3,7 @@ use mathlib.Core.Path.{_≡_, refl, sym, _∙_, ap}
 use mathlib.Core.Bool.{Bool, true, false, or-true}
 use mathlib.Core.List.{List, [], _∷_, _++_, append-assoc}
 use Prim.Native.Nat.{ℕ, zero, suc, _+_, _≤_, _<_, min}
+use native.Mathlib.Decide.{decLe}
 use native.Mathlib.Omega.{arith}
 use borrow.Author.Tests.{lt-ltb, le-leb, eq-eqb, ne-eqb}
 use lib.Dec.{ltb}
@@ -12,12 +13,15 @@ use Rattle.text.specs.declared.Position.{Position}
 use Rattle.text.specs.declared.Place.{Place}
 use Rattle.text.specs.Text.{isLF}
 use Rattle.text.specs.Rows.{Line, lines, unlines, at, upto, _⊕_, lastRow, rowLen, rowStart, clamp, offset, place, endOf}
+use Rattle.text.proofs.Adds.{behind}
+use Rattle.text.proofs.Order.{upto-both}
 use Rattle.text.proofs.Laws.{start-lf, start-other, start-first, start-none, len-lf, len-lf-next, len-other, len-other-next, len-none, len-le, last-none, last-lf, last-other, last-le, end-append, end-take}
 
-upto-added : (a b r c : ℕ) → upto (at a b) (at a b ⊕ at r c) ≡ true
-unfolding _⊕_
-upto-added a b zero c = let h : b ≤ b + c = omega arith in rw (eq-eqb a a refl, le-leb b (b + c) h) (or-true (ltb a a))
-upto-added a b (suc r) c = let h : a < a + suc r = omega arith in rw (ne-eqb (suc r) 0 (omega arith), lt-ltb a (a + suc r) h)
+pub front-slice : {A : Type 0} (a b : ℕ) (t : List A) → a ≤ b → take a t ++ slice a b t ≡ take b t
+front-slice {A} a b t h = ap (λ (l : List A). l ++ slice a b t) (sym (take-take a b t h)) ∙ take-append-drop a (take b t)
+
+pub cut-parts : {A : Type 0} (a b : ℕ) (t : List A) → a ≤ b → take a t ++ (slice a b t ++ drop b t) ≡ t
+cut-parts {A} a b t h = sym (append-assoc (take a t) (slice a b t) (drop b t)) ∙ ap (λ (l : List A). l ++ drop b t) (front-slice a b t h) ∙ take-append-drop b t
 
 module _ {A : Type 0} (lf : A → Bool) where
   -- a row ends in the text
@@ -73,6 +77,15 @@ module _ {A : Type 0} (lf : A → Bool) where
   unfolding endOf
   end-col t = len-le lf t (lastRow lf t)
 
+  -- a text of one row is as long as the row
+  pub one-row : (t : List A) → lastRow lf t ≡ 0 → rowLen lf t 0 ≡ length t
+  one-row [] e = len-none lf 0
+  one-row (x ∷ t) e = go (lf x) refl (one-row t)
+    where
+      go : (b : Bool) → lf x ≡ b → (lastRow lf t ≡ 0 → rowLen lf t 0 ≡ length t) → rowLen lf (x ∷ t) 0 ≡ suc (length t)
+      go true q ih = absurd (omega (arith, last-lf lf x t q))
+      go false q ih = len-other lf x t q ∙ ap suc (ih (sym (last-other lf x t q) ∙ e))
+
   unlines-mono : (ls : List (Line A)) (r s : ℕ) → r ≤ s → length (unlines (take r ls)) ≤ length (unlines (take s ls))
   unfolding unlines
   unlines-mono ls zero s h = omega arith
@@ -88,17 +101,24 @@ module _ {A : Type 0} (lf : A → Bool) where
 
   -- a text ends no later than a longer one
   pub end-upto : (s u : List A) → upto (endOf lf s) (endOf lf (s ++ u)) ≡ true
-  end-upto s u = rw (end-append lf s u) (upto-added (endOf lf s .row .0) (endOf lf s .col .0) (endOf lf u .row .0) (endOf lf u .col .0))
+  end-upto s u = rw (end-append lf s u) (behind (endOf lf s) (endOf lf u))
 
   -- positions of the text are in the order of their offsets
   pub offset-order : (t : List A) (a b : Position) → clamp lf t a ≡ a → clamp lf t b ≡ b → offset lf t a ≤ offset lf t b → upto a b ≡ true
   offset-order t a b ka kb h =
       let x : ℕ = offset lf t a in
       let y : ℕ = offset lf t b in
-      let e : take x t ++ drop x (take y t) ≡ take y t = ap (λ (l : List A). l ++ drop x (take y t)) (sym (take-take x y t h)) ∙ take-append-drop x (take y t) in
+      let e : take x t ++ slice x y t ≡ take y t = front-slice x y t h in
       let p : endOf lf (take x t) ≡ a = end-take lf t a ∙ ka in
       let q : endOf lf (take x t ++ drop x (take y t)) ≡ b = ap (endOf lf) e ∙ end-take lf t b ∙ kb in
       rw (p, q) at (end-upto (take x t) (drop x (take y t)))
+
+  -- and back
+  pub offset-mono : (t : List A) (a b : Position) → clamp lf t a ≡ a → clamp lf t b ≡ b → upto a b ≡ true → offset lf t a ≤ offset lf t b
+  offset-mono t a b ka kb u = elim (decLe (offset lf t a) (offset lf t b)) [
+    | yes h ↦ h
+    | no h ↦ (let e : a ≡ b = upto-both a b u (offset-order t b a kb ka (omega arith)) in rw e (omega arith))
+  ]
 
   -- a row that is not the last ends before the next one starts
   pub row-ends : (t : List A) (r : ℕ) → r < lastRow lf t → rowStart lf t r + rowLen lf t r < rowStart lf t (suc r)
@@ -111,11 +131,6 @@ module _ {A : Type 0} (lf : A → Bool) where
       go true e (suc r) h k = rw (start-lf lf x t r e, start-lf lf x t (suc r) e, len-lf-next lf x t r e) (omega (arith, k r (omega (arith, last-lf lf x t e))))
       go false e zero h k = rw (start-first lf (x ∷ t), len-other lf x t e, start-other lf x t 0 e) (omega (arith, k 0 (omega (arith, last-other lf x t e)), start-first lf t))
       go false e (suc r) h k = rw (start-other lf x t r e, start-other lf x t (suc r) e, len-other-next lf x t r e) (omega (arith, k (suc r) (omega (arith, last-other lf x t e))))
-
-pub cut-parts : {A : Type 0} (a b : ℕ) (t : List A) → a ≤ b → take a t ++ (slice a b t ++ drop b t) ≡ t
-cut-parts {A} a b t h =
-    ap (λ (l : List A). l ++ (slice a b t ++ drop b t)) (sym (take-take a b t h)) ∙ sym (append-assoc (take a (take b t)) (slice a b t) (drop b t))
-    ∙ ap (λ (l : List A). l ++ drop b t) (take-append-drop a (take b t)) ∙ take-append-drop b t
 
 -- the end of a text that stands at p, from the text's last row
 module _ (t : List ℕ) (p : Position) (l n : ℕ) (e : l ≡ lastRow isLF t) (f : n ≡ rowLen isLF t l) where

@@ -8,16 +8,9 @@ use lib.Seq.{append-snoc, take-at, drop-at, take-append-le, drop-append-le, leng
 use Rattle.text.specs.Rows.{Line, line, lines, unlines, rowCount, lastRow, rowLen, rowStart, spliced}
 use Rattle.text.specs.Text.{isLF}
 use Rattle.text.proofs.Alls.{all-append, all-take, all-drop}
-use Rattle.text.proofs.Ended.{notLF, Plain, Ended, final, ended}
+use Rattle.text.proofs.Broken.{first-unbroken, first-body}
+use Rattle.text.proofs.Ended.{notLF, Plain}
 use Rattle.text.proofs.Changes.{rowOf, row-exists, rows-around, rows-changed, rows-below, row-splice}
-
-ended-body : {x : Line ℕ} {B : List (Line ℕ)} (b : List ℕ) → Plain b → Ended (x ∷ B) → Ended (line b (x .after) ∷ B)
-ended-body b p (final _ _) = final b p
-ended-body b p (ended _ _ h) = ended b p h
-
-ended-plain : {x : Line ℕ} {B : List (Line ℕ)} → Ended (x ∷ B) → Plain (x .body)
-ended-plain (final _ p) = p
-ended-plain (ended _ p h) = p
 
 pub plain-spliced : (t x : List ℕ) (a e : ℕ) → Plain t → Plain x → Plain (spliced t a e x)
 plain-spliced t x a e p q = all-append notLF (take a t) (x ++ drop e t) (all-take notLF a t p) (all-append notLF x (drop e t) q (all-drop notLF e t p))
@@ -32,7 +25,7 @@ module _ (t : List ℕ) (r a e : ℕ) (x : List ℕ) where
 
 module _ (t : List ℕ) (r a e : ℕ) (x : List ℕ) (h : r ≤ lastRow isLF t) (ha : a ≤ rowLen isLF t r) (he : e ≤ rowLen isLF t r) (p : Plain x) (u : List ℕ) (q : Turned t r a e x u) where
   pub row-plain : Plain (rowOf t r .body)
-  row-plain = ended-plain (rows-below t r h)
+  row-plain = first-unbroken isLF (rows-below t r h)
 
   turned-text : u ≡ unlines (take r (lines isLF t) ++ newRow t r a e x ∷ drop (suc r) (lines isLF t))
   unfolding rowLen unlines
@@ -46,7 +39,7 @@ module _ (t : List ℕ) (r a e : ℕ) (x : List ℕ) (h : r ≤ lastRow isLF t) 
 
   pub lines-turned : lines isLF u ≡ take r (lines isLF t) ++ newRow t r a e x ∷ drop (suc r) (lines isLF t)
   lines-turned =
-      ap (lines isLF) turned-text ∙ rows-changed t r h (newRow t r a e x ∷ drop (suc r) (lines isLF t)) (ended-body (spliced (rowOf t r .body) a e x) (plain-spliced (rowOf t r .body) x a e row-plain p) (rows-below t r h))
+      ap (lines isLF) turned-text ∙ rows-changed t r h (newRow t r a e x ∷ drop (suc r) (lines isLF t)) (first-body isLF (spliced (rowOf t r .body) a e x) (plain-spliced (rowOf t r .body) x a e row-plain p) (rows-below t r h))
 
   above-long : length (take r (lines isLF t) ++ newRow t r a e x ∷ []) ≡ suc r
   above-long = omega (arith, length-append (take r (lines isLF t)) (newRow t r a e x ∷ []), length-take-le r (lines isLF t) (omega (arith, row-exists t r h)))

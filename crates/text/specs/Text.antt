@@ -13,7 +13,7 @@ isLF x = eqb x 10
 unfoldable pub admissible : ℕ → Bool
 admissible x = scalar x && not (within (0x0B, 0x0D) x || eqb x 0x85 || within (0x2028, 0x2029) x)
 
-unfoldable pub all : (ℕ → Bool) → List ℕ → Bool
+unfoldable pub all : {A : Type 0} → (A → Bool) → List A → Bool
 all f [] = true
 all f (x ∷ xs) = f x && all f xs
 

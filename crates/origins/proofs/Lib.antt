@@ -1,0 +1,4 @@
+pub mod Values
+pub mod Fresh
+pub mod Theorems
+pub mod Examples
