@@ -5,17 +5,17 @@ use mathlib.Core.List.{List, [], _∷_, map}
 use mathlib.Core.Logic.{⊎-elim}
 use Prim.Native.Nat.{ℕ, zero, suc, _+_, _-_, _≤_, _<_, min, max}
 use native.Mathlib.Nat.{eq-or-lt-of-le, sub-zero}
+use native.Mathlib.Decide.{decLe}
 use native.Mathlib.Numerals.{add-one}
 use native.Mathlib.Omega.{arith}
 use borrow.Author.Tests.{lt-ltb, le-ltb, le-leb, lt-leb, eq-eqb, ne-eqb}
-use lib.Dec.{eqb, leb}
+use lib.Dec.{ltb, eqb, leb}
 use lib.ListN.{length, take, drop, getD, length-take}
 use lib.Seq.{drop-cons, drop-drop, getD-drop, getD-take}
 use Rattle.text.specs.declared.Position.{Position}
 use Rattle.text.specs.declared.Span.{Span}
-use Rattle.text.specs.Rows.{Line, line, lines, at, _⊕_, lastRow, rowLen, span}
+use Rattle.text.specs.Rows.{Line, line, lines, at, lastRow, rowLen, span}
 use Rattle.text.specs.Text.{isLF}
-use Rattle.text.proofs.Laws.{add-to-row}
 use Rattle.text.proofs.Fronts.{behind-front}
 use Rattle.edit.proofs.Maps.{mapLine, map-length}
 use Rattle.joins.specs.declared.JoinTurn.{JoinTurn}
@@ -41,22 +41,6 @@ pub cols-map : {A B : Type 0} (v : A → B) (b : Bool) (n : ℕ) (rs : List (Lin
 unfolding startCols
 cols-map v b n [] = refl
 cols-map v b n (r ∷ rs) = rw (map-length v (r .body)) (let c : ℕ = n + gapLen b n (length (r .body)) in ap (λ (l : List ℕ). c ∷ l) (cols-map v b (c + length (r .body)) rs))
-
--- no row begins before the one that it is joined to ends
-cols-behind : {A : Type 0} (b : Bool) (n : ℕ) (rs : List (Line A)) (k : ℕ) → k < length rs → n ≤ getD (startCols b n rs) k 0
-unfolding startCols
-cols-behind b n [] k l = absurd (omega arith)
-cols-behind b n (r ∷ rs) zero l = omega arith
-cols-behind b n (r ∷ rs) (suc k) l = let i = cols-behind b (n + gapLen b n (length (r .body)) + length (r .body)) rs k (omega arith) in omega arith
-
-pub cols-apart : {A : Type 0} (b : Bool) (n : ℕ) (rs : List (Line A)) (k m : ℕ) → k < m → m < length rs
-    → getD (startCols b n rs) k 0 + length (getD rs k (line [] []) .body) ≤ getD (startCols b n rs) m 0
-unfolding startCols
-cols-apart b n [] k m l h = absurd (omega arith)
-cols-apart b n (r ∷ rs) zero zero l h = absurd (omega arith)
-cols-apart b n (r ∷ rs) zero (suc m) l h = cols-behind b (n + gapLen b n (length (r .body)) + length (r .body)) rs m (omega arith)
-cols-apart b n (r ∷ rs) (suc k) zero l h = absurd (omega arith)
-cols-apart b n (r ∷ rs) (suc k) (suc m) l h = cols-apart b (n + gapLen b n (length (r .body)) + length (r .body)) rs k m (omega arith) (omega arith)
 
 abbrev colsOf : List ℕ → ℕ → Bool → List ℕ
 colsOf t r b = startCols b (rowLen isLF t r) (belowOf t r)
@@ -129,33 +113,88 @@ module _ (t : List ℕ) (down : ℕ) (b : Bool) (end len at left col k : ℕ) (w
 
 -- ---- where a position lands
 
+-- over joins onto a row, of rows that begin at these columns then
+unfoldable pub landed : ℕ → List ℕ → Position → Position
+landed row cols p =
+    cond (ltb (p .row .0) row) p
+    (cond (eqb (length cols) 0 || eqb (p .row .0) row) p
+    (cond (leb (p .row .0) (row + length cols)) (at row (getD cols (p .row .0 - row - 1) 0 + p .col .0)) (at (p .row .0 - length cols) (p .col .0))))
+
+module _ (row : ℕ) (cols : List ℕ) (p : Position) where
+  pub landed-above : p .row .0 ≤ row → landed row cols p ≡ p
+  unfolding landed
+  landed-above h =
+      ⊎-elim
+      (λ e. rw (le-ltb (p .row .0) row (omega arith), eq-eqb (p .row .0) row e, or-true))
+      (λ l. rw (lt-ltb (p .row .0) row l)) (eq-or-lt-of-le {n = p .row .0} {m = row} h)
+
+  pub landed-onto : row < p .row .0 → p .row .0 - row ≤ length cols → landed row cols p ≡ at row (getD cols (p .row .0 - row - 1) 0 + p .col .0)
+  unfolding landed
+  landed-onto h l =
+      rw (le-ltb (p .row .0) row (omega arith), ne-eqb (p .row .0) row (omega arith), ne-eqb (length cols) 0 (omega arith), le-leb (p .row .0) (row + length cols) (omega arith))
+
+  pub landed-below : length cols < p .row .0 - row → landed row cols p ≡ at (p .row .0 - length cols) (p .col .0)
+  unfolding landed
+  landed-below l = rw (le-ltb (p .row .0) row (omega arith), ne-eqb (p .row .0) row (omega arith)) (go (length cols) l)
+    where
+      go : (m : ℕ) → m < p .row .0 - row
+          → cond (eqb m 0 || false) p (cond (leb (p .row .0) (row + m)) (at row (getD cols (p .row .0 - row - 1) 0 + p .col .0)) (at (p .row .0 - m) (p .col .0))) ≡ at (p .row .0 - m) (p .col .0)
+      go zero l = rw sub-zero
+      go (suc m) l = rw (ne-eqb (suc m) 0 (omega arith), lt-leb (p .row .0) (row + suc m) (omega arith))
+
+pub landed-none : (row : ℕ) (p : Position) → landed row [] p ≡ p
+landed-none row p = elim (decLe (p .row .0) row) [ yes h ↦ landed-above row [] p h | no h ↦ landed-below row [] p (omega arith) ∙ rw sub-zero ]
+
+-- the first join, then the others
+pub landed-then : (row c : ℕ) (cs : List ℕ) (p : Position) → landed row cs (landed row (c ∷ []) p) ≡ landed row (c ∷ cs) p
+landed-then row c cs p = elim (decLe (p .row .0) row) [
+    yes h ↦ ap (landed row cs) (landed-above row (c ∷ []) p h) ∙ landed-above row cs p h ∙ sym (landed-above row (c ∷ cs) p h)
+    | no h ↦ elim (decLe (p .row .0) (suc row)) [
+      yes l ↦ first (omega arith)
+      | no l ↦ ap (landed row cs) (landed-below row (c ∷ []) p (omega arith)) ∙ further (omega arith)
+    ]
+  ]
+  where
+    q : Position
+    q = at (p .row .0 - 1) (p .col .0)
+    first : p .row .0 ≡ suc row → landed row cs (landed row (c ∷ []) p) ≡ landed row (c ∷ cs) p
+    first e =
+        let z : p .row .0 - row - 1 ≡ 0 = omega arith in
+        let one : landed row (c ∷ []) p ≡ at row (c + p .col .0) = landed-onto row (c ∷ []) p (omega arith) (omega arith) ∙ rw z in
+        let all : landed row (c ∷ cs) p ≡ at row (c + p .col .0) = landed-onto row (c ∷ cs) p (omega arith) (omega arith) ∙ rw z in
+        ap (landed row cs) one ∙ landed-above row cs (at row (c + p .col .0)) (omega arith) ∙ sym all
+    further : suc row < p .row .0 → landed row cs q ≡ landed row (c ∷ cs) p
+    further l = elim (decLe (p .row .0 - row) (suc (length cs))) [
+        yes k ↦ (let z : p .row .0 - row - 1 ≡ suc (p .row .0 - 1 - row - 1) = omega arith in
+          landed-onto row cs q (omega arith) (omega arith) ∙ sym (landed-onto row (c ∷ cs) p (omega arith) k ∙ rw z))
+        | no k ↦ (let z : p .row .0 - 1 - length cs ≡ p .row .0 - suc (length cs) = omega arith in
+          landed-below row cs q (omega arith) ∙ ap (λ (r : ℕ). at r (p .col .0)) z ∙ sym (landed-below row (c ∷ cs) p (omega arith)))
+      ]
+
 -- of the rows that a join joins
 abbrev pub joinedCols : ℕ → ℕ → Bool → List ℕ → List ℕ
 joinedCols row count b t = startCols b (rowLen isLF t row) (take (max count 1) (belowOf t row))
 
 module _ (p : Position) (row count : ℕ) (b : Bool) (t : List ℕ) where
-  pub join-above : p .row .0 ≤ row → p ≡ afterJoin p row count b t
-  unfolding afterJoin
-  join-above h =
-      ⊎-elim
-      (λ e. rw (le-ltb (p .row .0) row (omega arith), eq-eqb (p .row .0) row e, or-true))
-      (λ l. rw (lt-ltb (p .row .0) row l)) (eq-or-lt-of-le {n = p .row .0} {m = row} h)
+  pub join-landed : landed row (joinedCols row count b t) p ≡ afterJoin p row count b t
+  unfolding landed afterJoin
+  join-landed = refl
 
   abbrev cols : List ℕ
   cols = joinedCols row count b t
+
+  pub join-above : p .row .0 ≤ row → p ≡ afterJoin p row count b t
+  join-above h = sym (landed-above row cols p h) ∙ join-landed
 
   made : length cols ≡ min (max count 1) (lastRow isLF t - row)
   made = cols-length b (rowLen isLF t row) (take (max count 1) (belowOf t row)) ∙ length-take (max count 1) (belowOf t row) ∙ rw (below-count t row)
 
   module _ (m : ℕ) (e : m ≡ min (max count 1) (lastRow isLF t - row)) (h : row < p .row .0) where
+    many : length cols ≡ m
+    many = made ∙ sym e
+
     pub join-below : m < p .row .0 - row → at (p .row .0 - m) (p .col .0) ≡ afterJoin p row count b t
-    unfolding afterJoin
-    join-below l = rw (made, ← e, le-ltb (p .row .0) row (omega arith), ne-eqb (p .row .0) row (omega arith)) (go m l)
-      where
-        go : (m : ℕ) → m < p .row .0 - row → at (p .row .0 - m) (p .col .0)
-            ≡ cond (eqb m 0 || false) p (cond (leb (p .row .0) (row + m)) (at row (getD cols (p .row .0 - row - 1) 0 + p .col .0)) (at (p .row .0 - m) (p .col .0)))
-        go zero l = rw sub-zero
-        go (suc m) l = rw (ne-eqb (suc m) 0 (omega arith), lt-leb (p .row .0) (row + suc m) (omega arith))
+    join-below l = ap (λ (n : ℕ). at (p .row .0 - n) (p .col .0)) (sym many) ∙ sym (landed-below row cols p (omega (arith, many))) ∙ join-landed
 
     -- the rows past those that are joined do not count
     col-taken : p .row .0 - row ≤ m → getD cols (p .row .0 - row - 1) 0 ≡ getD (colsOf t row b) (p .row .0 - row - 1) 0
@@ -163,28 +202,4 @@ module _ (p : Position) (row count : ℕ) (b : Bool) (t : List ℕ) where
 
     pub join-onto : p .row .0 - row ≤ m → (s : ℕ) → s ≡ getD (startCols b (rowLen isLF t row) (drop (suc row) (lines isLF t))) (p .row .0 - row - 1) 0
         → at row (s + p .col .0) ≡ afterJoin p row count b t
-    unfolding afterJoin
-    join-onto l s c =
-        let z : m ≡ 0 → ⊥ = λ q. omega arith in
-        rw (made, ← e, le-ltb (p .row .0) row (omega arith), ne-eqb (p .row .0) row (omega arith), ne-eqb m 0 z, le-leb (p .row .0) (row + m) (omega arith), col-taken l, c)
-
-module _ (row count : ℕ) (b : Bool) (t : List ℕ) where
-  -- a row that is joined, by how many stand between
-  pub join-row : (k j : ℕ) → k < length (joinedCols row count b t) → afterJoin (at (suc row + k) j) row count b t ≡ at row (getD (joinedCols row count b t) k 0 + j)
-  join-row k j h =
-      let p : Position = at (suc row + k) j in
-      let m = made p row count b t in
-      let i : ℕ = suc row + k - row - 1 in
-      let e : k ≡ i = omega arith in
-      let s : getD (joinedCols row count b t) k 0 ≡ getD (colsOf t row b) i 0 =
-      ap (λ (i : ℕ). getD (joinedCols row count b t) i 0) e ∙ col-taken p row count b t (length (joinedCols row count b t)) m (omega arith) (omega arith) in
-      sym (join-onto p row count b t (length (joinedCols row count b t)) m (omega arith) (omega arith) (getD (joinedCols row count b t) k 0) s)
-
-  -- what stands behind them
-  pub join-past : (d : Position) → afterJoin (at (suc row + length (joinedCols row count b t)) 0 ⊕ d) row count b t ≡ at (suc row) 0 ⊕ d
-  join-past d =
-      let n : ℕ = length (joinedCols row count b t) in
-      let p : Position = at (suc row + n + d .row .0) (d .col .0) in
-      let e : suc row + n + d .row .0 - n ≡ suc row + d .row .0 = omega arith in
-      rw (add-to-row (suc row + n) (d .row .0) (d .col .0), add-to-row (suc row) (d .row .0) (d .col .0))
-      (sym (join-below p row count b t n (made p row count b t) (omega arith) (omega arith)) ∙ ap (λ (r : ℕ). at r (d .col .0)) e)
+    join-onto l s c = ap (λ (n : ℕ). at row (n + p .col .0)) (c ∙ sym (col-taken l)) ∙ sym (landed-onto row cols p h (omega (arith, many))) ∙ join-landed

@@ -36,7 +36,7 @@ module _ {s : State} {w : Whole ℕ} {o : Beside} (c : Call s w o) where
   same-handed : (a : Applied) → returned a (called s w o) ≡ handed a c
   same-handed a = rw (← c .promise)
 
-  called-with : (u : State) (i : Whole ℕ) → AcceptedCall c u i → AcceptedWith o s w u i
+  pub called-with : (u : State) (i : Whole ℕ) → AcceptedCall c u i → AcceptedWith o s w u i
   called-with u i h = (h .0, same-answer ∙ ap paperAnswer (h .1), same-left (h .0) ∙ h .2, same-handed (h .0) ∙ h .3)
 
   pub with-call : (u : State) (i : Whole ℕ) → AcceptedWith o s w u i → AcceptedCall c u i

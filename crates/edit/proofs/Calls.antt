@@ -60,16 +60,17 @@ unfolding leaves
 leaves-answer (done a) v l d = refl
 leaves-answer (refused n k) v l d = refl
 
--- what is done or refused on paper is so in an answer: the promise can be met, whatever the call
-first-answered : (xs : List (Bool × Refusal)) (a : Applied) → (r : Answer) × (paperAnswer r ≡ firstOf xs (done a))
-unfolding firstOf
-first-answered [] a = (Done a, refl)
-first-answered (x ∷ xs) a = go (x .0) (first-answered xs a)
-  where
-    go : (b : Bool) → (r : Answer) × (paperAnswer r ≡ firstOf xs (done a))
-        → (r : Answer) × (paperAnswer r ≡ cond {A = Paper Applied} b (refused (numberOf (x .1)) (offsetOf (x .1))) (firstOf xs (done a)))
-    go true h = (Refused (x .1), refl)
-    go false h = h
+-- what is done or refused on paper is so in an answer of any kind: the promise can be met, whatever the call
+module _ {A R : Type 0} (paper : R → Paper A) (refuses : Refusal → R) (same : (r : Refusal) → paper (refuses r) ≡ refused (numberOf r) (offsetOf r)) where
+  pub first-answered : (xs : List (Bool × Refusal)) (a : R) → (r : R) × (paper r ≡ firstOf xs (paper a))
+  unfolding firstOf
+  first-answered [] a = (a, refl)
+  first-answered (x ∷ xs) a = go (x .0) (first-answered xs a)
+    where
+      go : (b : Bool) → (r : R) × (paper r ≡ firstOf xs (paper a))
+          → (r : R) × (paper r ≡ cond {A = Paper A} b (refused (numberOf (x .1)) (offsetOf (x .1))) (firstOf xs (paper a)))
+      go true h = (refuses (x .1), same (x .1))
+      go false h = h
 
 pub promise-met : (v : View) (e : Edit) (l : Lent)
     → (r : Answer) × Promised r (applied v e l .text) (applied v e l .payload) (applied v e l .first) (applied v e l .second) v e l
@@ -77,7 +78,7 @@ unfolding applied
 promise-met v e l =
     let d = resultOf v e l in
     let c = applied v e l in
-    let f = first-answered (givenTests v e l ++ resultTests (withinOk (textOf v l) e (l .first) (l .second)) (roomOf l) d) (appliedAs v d) in
+    let f = first-answered paperAnswer (λ r. Refused r) (λ r. refl) (givenTests v e l ++ resultTests (withinOk (textOf v l) e (l .first) (l .second)) (roomOf l) d) (Done (appliedAs v d)) in
     (f .0, ap (λ (p : Paper Applied). outcome p (c .text) (c .payload) (c .first) (c .second)) (f .1 ∙ sym (leaves-answer _ v l d)))
 
 -- a refusal has a number, and it is not 0

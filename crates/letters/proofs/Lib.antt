@@ -1,0 +1,9 @@
+pub mod Carries
+pub mod Splices
+pub mod Flats
+pub mod OneRow
+pub mod Blocks
+pub mod Joins
+pub mod Goings
+pub mod Theorems
+pub mod Called
