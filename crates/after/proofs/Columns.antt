@@ -61,19 +61,20 @@ module _ (F : ℕ → ℕ → ℕ) where
   -- the first chunk, then the others
   pub column-then : (r n : ℕ) (ns : List ℕ) (m j : ℕ) → column (suc r) ns m (column r (n ∷ []) m j) ≡ column r (n ∷ ns) m j
   column-then r n ns m j = elim (decLe r m) [
-      yes a ↦ elim (decLe m r) [
-        yes b ↦ (let e : r + 0 ≡ m = omega arith in subst (λ (m : ℕ). column (suc r) ns m (column r (n ∷ []) m j) ≡ column r (n ∷ ns) m j) e here)
-        | no b ↦ (let e : suc r + (m - suc r) ≡ m = omega arith in subst (λ (m : ℕ). column (suc r) ns m (column r (n ∷ []) m j) ≡ column r (n ∷ ns) m j) e (below (m - suc r)))
-      ]
-      | no a ↦ rw (column-above r (n ∷ []) m j (omega arith), column-above r (n ∷ ns) m j (omega arith)) (column-above (suc r) ns m j (omega arith))
+    | yes a ↦ elim (decLe m r) [
+      | yes b ↦ (let e : r + 0 ≡ m = omega arith in subst (λ (m : ℕ). column (suc r) ns m (column r (n ∷ []) m j) ≡ column r (n ∷ ns) m j) e here)
+      | no b ↦ (let e : suc r + (m - suc r) ≡ m = omega arith in subst (λ (m : ℕ). column (suc r) ns m (column r (n ∷ []) m j) ≡ column r (n ∷ ns) m j) e (below (m - suc r)))
     ]
+    | no a ↦ rw (column-above r (n ∷ []) m j (omega arith), column-above r (n ∷ ns) m j (omega arith)) (column-above (suc r) ns m j (omega arith))
+  ]
     where
       here : column (suc r) ns (r + 0) (column r (n ∷ []) (r + 0) j) ≡ column r (n ∷ ns) (r + 0) j
       here = column-above (suc r) ns (r + 0) (column r (n ∷ []) (r + 0) j) (omega arith) ∙ column-at r (n ∷ []) 0 j (omega arith) ∙ sym (column-at r (n ∷ ns) 0 j (omega arith))
+
       below : (k : ℕ) → column (suc r) ns (suc r + k) (column r (n ∷ []) (suc r + k) j) ≡ column r (n ∷ ns) (suc r + k) j
       below k =
           rw (column-under r (n ∷ []) (suc r + k) j (omega arith)) (elim (decLe (length ns) k) [
-            yes l ↦ column-under (suc r) ns (suc r + k) j (omega arith) ∙ sym (column-under r (n ∷ ns) (suc r + k) j (omega arith))
+            | yes l ↦ column-under (suc r) ns (suc r + k) j (omega arith) ∙ sym (column-under r (n ∷ ns) (suc r + k) j (omega arith))
             | no l ↦ column-at (suc r) ns k j (omega arith) ∙ sym (subst (λ (m : ℕ). column r (n ∷ ns) m j ≡ F (getD ns k 0) j) (omega arith) (column-at r (n ∷ ns) (suc k) j (omega arith)))
           ])
 
@@ -92,9 +93,9 @@ put-right c w j h = rw (le-ltb j c h)
 
 put-keeps : (c w i j : ℕ) → i ≤ j → putIn c w i ≤ putIn c w j
 put-keeps c w i j h = elim (decLe c i) [
-    yes a ↦ rw (put-right c w i a, put-right c w j (omega arith)) (omega arith)
-    | no a ↦ rw (put-left c w i (omega arith)) (elim (decLe c j) [ yes b ↦ rw (put-right c w j b) (omega arith) | no b ↦ rw (put-left c w j (omega arith)) h ])
-  ]
+  | yes a ↦ rw (put-right c w i a, put-right c w j (omega arith)) (omega arith)
+  | no a ↦ rw (put-left c w i (omega arith)) (elim (decLe c j) [ yes b ↦ rw (put-right c w j b) (omega arith) | no b ↦ rw (put-left c w j (omega arith)) h ])
+]
 
 -- ---- a chunk that goes
 
@@ -115,15 +116,15 @@ cut-right c w j a = elim (decLe j c) [ yes l ↦ rw (le-leb j c l) (omega arith)
 
 cut-keeps : (c w i j : ℕ) → i ≤ j → cutOut c w i ≤ cutOut c w j
 cut-keeps c w i j h = elim (decLe j c) [
-    yes a ↦ rw (cut-left c w i (omega arith), cut-left c w j a) h
-    | no a ↦ elim (decLe (c + w) j) [
-      yes b ↦ rw (cut-right c w j b) (elim (decLe (c + w) i) [
-        yes d ↦ rw (cut-right c w i d) (omega arith)
-        | no d ↦ elim (decLe c i) [ yes e ↦ rw (cut-within c w i e (omega arith)) (omega arith) | no e ↦ rw (cut-left c w i (omega arith)) (omega arith) ]
-      ])
-      | no b ↦ rw (cut-within c w j (omega arith) (omega arith)) (elim (decLe c i) [ yes e ↦ rw (cut-within c w i e (omega arith)) (omega arith) | no e ↦ rw (cut-left c w i (omega arith)) (omega arith) ])
-    ]
+  | yes a ↦ rw (cut-left c w i (omega arith), cut-left c w j a) h
+  | no a ↦ elim (decLe (c + w) j) [
+    | yes b ↦ rw (cut-right c w j b) (elim (decLe (c + w) i) [
+      | yes d ↦ rw (cut-right c w i d) (omega arith)
+      | no d ↦ elim (decLe c i) [ yes e ↦ rw (cut-within c w i e (omega arith)) (omega arith) | no e ↦ rw (cut-left c w i (omega arith)) (omega arith) ]
+    ])
+    | no b ↦ rw (cut-within c w j (omega arith) (omega arith)) (elim (decLe c i) [ yes e ↦ rw (cut-within c w i e (omega arith)) (omega arith) | no e ↦ rw (cut-left c w i (omega arith)) (omega arith) ])
   ]
+]
 
 -- ---- the two shifts
 
@@ -149,9 +150,9 @@ module _ (q : Position) (lens : List ℕ) where
   unfolding afterDeleteBlockChunks column cutOut
   cut-in-rows = record {
     is = λ m j.
-      let k : ℕ = cond (leb (q .col .0 + width m) j) (j - width m) (q .col .0) in
-      ap (cond (beside m || leb j (q .col .0)) (at m j)) (one-of (leb (q .col .0 + width m) j) m (j - width m) (q .col .0))
-      ∙ one-of (beside m || leb j (q .col .0)) m j k ∙ ap (at m) (beside-or (beside m) (leb j (q .col .0)) j k);
+        let k : ℕ = cond (leb (q .col .0 + width m) j) (j - width m) (q .col .0) in
+        ap (cond (beside m || leb j (q .col .0)) (at m j)) (one-of (leb (q .col .0 + width m) j) m (j - width m) (q .col .0))
+        ∙ one-of (beside m || leb j (q .col .0)) m j k ∙ ap (at m) (beside-or (beside m) (leb j (q .col .0)) j k);
     keeps = column-keeps (cutOut (q .col .0)) (cut-keeps (q .col .0)) (q .row .0) lens;
   }
 
@@ -173,12 +174,12 @@ module _ (s e : Position) where
   -- columns, in its rows
   same-col : (j : ℕ) → cond (ltb right j) (j - (right - left + 1)) (cond (leb left j) left j) ≡ cutOut left (breadth s e) j
   same-col j = elim (decLe j left) [
-      yes a ↦ rw (le-ltb right j (omega arith), cut-left left (breadth s e) j a) (edge (leb left j) refl a)
-      | no a ↦ elim (decLe j right) [
-        yes b ↦ rw (le-ltb right j b, le-leb left j (omega arith), cut-within left (breadth s e) j (omega arith) (omega arith))
-        | no b ↦ rw (lt-ltb right j (omega arith), cut-right left (breadth s e) j (omega arith)) (omega arith)
-      ]
+    | yes a ↦ rw (le-ltb right j (omega arith), cut-left left (breadth s e) j a) (edge (leb left j) refl a)
+    | no a ↦ elim (decLe j right) [
+      | yes b ↦ rw (le-ltb right j b, le-leb left j (omega arith), cut-within left (breadth s e) j (omega arith) (omega arith))
+      | no b ↦ rw (lt-ltb right j (omega arith), cut-right left (breadth s e) j (omega arith)) (omega arith)
     ]
+  ]
     where
       edge : (c : Bool) → leb left j ≡ c → j ≤ left → cond c left j ≡ j
       edge true q a = omega (arith, leb-true left j q)

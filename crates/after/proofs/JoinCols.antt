@@ -148,28 +148,30 @@ landed-none row p = elim (decLe (p .row .0) row) [ yes h ↦ landed-above row []
 -- the first join, then the others
 pub landed-then : (row c : ℕ) (cs : List ℕ) (p : Position) → landed row cs (landed row (c ∷ []) p) ≡ landed row (c ∷ cs) p
 landed-then row c cs p = elim (decLe (p .row .0) row) [
-    yes h ↦ ap (landed row cs) (landed-above row (c ∷ []) p h) ∙ landed-above row cs p h ∙ sym (landed-above row (c ∷ cs) p h)
-    | no h ↦ elim (decLe (p .row .0) (suc row)) [
-      yes l ↦ first (omega arith)
-      | no l ↦ ap (landed row cs) (landed-below row (c ∷ []) p (omega arith)) ∙ further (omega arith)
-    ]
+  | yes h ↦ ap (landed row cs) (landed-above row (c ∷ []) p h) ∙ landed-above row cs p h ∙ sym (landed-above row (c ∷ cs) p h)
+  | no h ↦ elim (decLe (p .row .0) (suc row)) [
+    | yes l ↦ first (omega arith)
+    | no l ↦ ap (landed row cs) (landed-below row (c ∷ []) p (omega arith)) ∙ further (omega arith)
   ]
+]
   where
     q : Position
     q = at (p .row .0 - 1) (p .col .0)
+
     first : p .row .0 ≡ suc row → landed row cs (landed row (c ∷ []) p) ≡ landed row (c ∷ cs) p
     first e =
         let z : p .row .0 - row - 1 ≡ 0 = omega arith in
         let one : landed row (c ∷ []) p ≡ at row (c + p .col .0) = landed-onto row (c ∷ []) p (omega arith) (omega arith) ∙ rw z in
         let all : landed row (c ∷ cs) p ≡ at row (c + p .col .0) = landed-onto row (c ∷ cs) p (omega arith) (omega arith) ∙ rw z in
         ap (landed row cs) one ∙ landed-above row cs (at row (c + p .col .0)) (omega arith) ∙ sym all
+
     further : suc row < p .row .0 → landed row cs q ≡ landed row (c ∷ cs) p
     further l = elim (decLe (p .row .0 - row) (suc (length cs))) [
-        yes k ↦ (let z : p .row .0 - row - 1 ≡ suc (p .row .0 - 1 - row - 1) = omega arith in
+      | yes k ↦ (let z : p .row .0 - row - 1 ≡ suc (p .row .0 - 1 - row - 1) = omega arith in
           landed-onto row cs q (omega arith) (omega arith) ∙ sym (landed-onto row (c ∷ cs) p (omega arith) k ∙ rw z))
-        | no k ↦ (let z : p .row .0 - 1 - length cs ≡ p .row .0 - suc (length cs) = omega arith in
+      | no k ↦ (let z : p .row .0 - 1 - length cs ≡ p .row .0 - suc (length cs) = omega arith in
           landed-below row cs q (omega arith) ∙ ap (λ (r : ℕ). at r (p .col .0)) z ∙ sym (landed-below row (c ∷ cs) p (omega arith)))
-      ]
+    ]
 
 -- of the rows that a join joins
 abbrev pub joinedCols : ℕ → ℕ → Bool → List ℕ → List ℕ

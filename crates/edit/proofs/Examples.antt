@@ -18,6 +18,7 @@ use Rattle.edit.specs.Examples.{opened, FurtherExamples, FirstRefusals, 
 use Rattle.edit.proofs.Accepted.{doing}
 use Rattle.edit.proofs.Calls.{next, once-called}
 use Rattle.edit.proofs.Demand3.{run-held}
+use Rattle.edit.proofs.Samples.{statesFrom, lastFrom, Ran, ran-none, ran-more}
 
 pub further-examples : FurtherExamples
 unfolding onto lines unlines rowCount lastRow rowLen rowStart clamp offset endOf inText admissible all textOk renewed scalar flatten inserted charsDeleted lineFrom lineTo linesDeleted replaced gap joinRow joinCols joinFlags put putAll padsOf pieces cutAll chunksOf anyFlag joined unspace splitFirst splitRow split blockInserted chunksDeleted rangeDeleted editedBy sum smallRange smallOk fewRows fewOk payloadOk withinFirst withinAll withinOk roomOk recordOk wide firstOf resultOf leaves applied rangeUndoable isUndoable undoable
@@ -54,39 +55,25 @@ room-filled = record { lists = refl; payload = refl }
 
 -- ---- the sample: each edit's answer is computed at the state that the edits before it leave
 
-statesFrom : State → List (Whole ℕ) → List State
-statesFrom s [] = s ∷ []
-statesFrom s (w ∷ ws) = s ∷ statesFrom (next s w) ws
-
-lastFrom : State → List (Whole ℕ) → State
-lastFrom s [] = s
-lastFrom s (w ∷ ws) = lastFrom (next s w) ws
-
 data Passes : State → List (Whole ℕ) → List Beside → Type 0 where
   none : {s : State} → Passes s [] []
   more : {s : State} {w : Whole ℕ} {o : Beside} {ws : List (Whole ℕ)} {os : List Beside} → called s w o .answer ≡ done (appliedAs (viewAt s o) (doing w (text s)))
       → undoable (viewAt s o) (w .edit) (lentAt s w o) ≡ done true → Passes (next s w) ws os → Passes s (w ∷ ws) (o ∷ os)
 
-record Ran (s : State) (ws : List (Whole ℕ)) (os : List Beside) : Type 0 where
-  run : Run Undoable s (lastFrom s ws)
-  its-edits : edits run ≡ ws
-  its-besides : besides run ≡ os
-  its-states : stages run ≡ statesFrom s ws
+-- the run, and what each call was handed beside
+record RanBeside (s : State) (ws : List (Whole ℕ)) (os : List Beside) : Type 0 where
+  ran : Ran Undoable s ws
+  its-besides : besides (ran .run) ≡ os
 
-ran : (s : State) (ws : List (Whole ℕ)) (os : List Beside) → Passes s ws os → Ran s ws os
-unfolding edits stages besides lastFrom statesFrom
-ran s [] [] none = record { run = stop; its-edits = refl; its-besides = refl; its-states = refl }
-ran s (w ∷ ws) (o ∷ os) (more e u p) =
+ran-beside : (s : State) (ws : List (Whole ℕ)) (os : List Beside) → Passes s ws os → RanBeside s ws os
+unfolding besides ran-none ran-more
+ran-beside s [] [] none = record { ran = ran-none s; its-besides = refl }
+ran-beside s (w ∷ ws) (o ∷ os) (more e u p) =
     let a : Applied = appliedAs (viewAt s o) (doing w (text s)) in
     let c = once-called s w o a e in
     let h : Undoable s w (next s w) (doing w (text s) .inverse) = (o, (a, e, c .state, c .inverse), u) in
-    let r = ran (next s w) ws os p in
-    record {
-      run = step h (r .run);
-      its-edits = ap {B = List (Whole ℕ)} (λ l. w ∷ l) (r .its-edits);
-      its-besides = ap {B = List Beside} (λ l. o ∷ l) (r .its-besides);
-      its-states = ap {B = List State} (λ l. s ∷ l) (r .its-states);
-    }
+    let r = ran-beside (next s w) ws os p in
+    record { ran = ran-more (doing w (text s) .inverse) h (r .ran); its-besides = ap {B = List Beside} (λ l. o ∷ l) (r .its-besides) }
 
 abbrev start : State
 start = opened (97 ∷ 98 ∷ 10 ∷ 99 ∷ [])
@@ -101,13 +88,14 @@ sample-texts = refl
 
 pub sample-run : SampleRun
 sample-run =
-    let r = ran start sampleEdits sampleBesides passes in
+    let b = ran-beside start sampleEdits sampleBesides passes in
+    let r = b .ran in
     let k = run-held 16 (r .run) (record { long = refl; within = omega arith }) in
     record {
       last = lastFrom start sampleEdits;
       run = r .run;
       its-edits = r .its-edits;
-      its-besides = r .its-besides;
+      its-besides = b .its-besides;
       its-texts = ap (map text) (r .its-states) ∙ sample-texts;
       room = record { payload = omega (arith, k .long); first = omega arith; second = omega arith };
     }

@@ -12,5 +12,6 @@ pub mod Sizes
 pub mod Wides
 pub mod Demand3
 pub mod Theorems
+pub mod Samples
 pub mod Examples
 pub mod Workers

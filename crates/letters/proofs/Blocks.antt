@@ -67,10 +67,13 @@ module _ {A : Type 0} (lf : A → Bool) {Free : A → Type 0} (lfs : (x : A) →
     where
       r : ℕ
       r = length X
+
       plain : Unbroken lf (y .body)
       plain = first-unbroken lf (broken-right lf X y Y b)
+
       here : (j : ℕ) → column F r (width x ∷ []) r j ≡ F (width x) j
       here j = subst (λ (m : ℕ). column F r (width x ∷ []) m j ≡ F (width x) j) (add-zero r) (column-at F r (width x ∷ []) 0 j (omega arith))
+
       others : (m j : ℕ) → (m ≡ r → ⊥) → column F r (width x ∷ []) m j ≡ j
       others m j n = elim (decLe r m) [ yes l ↦ column-under F r (width x ∷ []) m j (omega arith) | no l ↦ column-above F r (width x ∷ []) m j (omega arith) ]
 
@@ -99,14 +102,17 @@ module _ {A : Type 0} (lf : A → Bool) {Free : A → Type 0} (lfs : (x : A) →
     where
       L : List (Line A)
       L = lines lf t
+
       parts : unlines (take r L ++ drop r L) ≡ t
       parts = ap unlines (take-append-drop r L) ∙ unlines-lines lf t
+
       within-text : r ≤ length L → Carries lf Free (sh r (map width xs)) t (unlines (take r L ++ rebodied body xs (drop r L)))
       within-text l =
           let e : length (take r L) ≡ r = length-take-le r L l in
           subst (λ (s : List A). Carries lf Free (sh r (map width xs)) s (unlines (take r L ++ rebodied body xs (drop r L)))) parts
           (subst (λ (m : ℕ). Carries lf Free (sh m (map width xs)) (unlines (take r L ++ drop r L)) (unlines (take r L ++ rebodied body xs (drop r L)))) e
           (carries-rows xs h (take r L) (drop r L) (rw (take-append-drop r L) (lines-broken lf t))))
+
       past : length L < r → Carries lf Free (sh r (map width xs)) t (unlines (take r L ++ rebodied body xs (drop r L)))
       past l =
           let z : length L ≤ r = omega arith in
@@ -123,8 +129,8 @@ module _ {A : Type 0} (lf : A → Bool) {Free : A → Type 0} (lfs : (x : A) →
   part c d s p f =
       holds-carried lf R S sh carry (λ p x e. free p x (lfs x e)) (at n c) (at n d) s
       (λ u x r i k.
-        rw (in-row lf n c s u x r p i, in-row lf n d s u x r p i)
-        (f (length u) (let m : length s ≡ length (u ++ x ∷ r) = ap length i in omega (arith, length-append u (x ∷ r)))))
+      rw (in-row lf n c s u x r p i, in-row lf n d s u x r p i)
+      (f (length u) (let m : length s ≡ length (u ++ x ∷ r) = ap length i in omega (arith, length-append u (x ∷ r)))))
 
   front-part : (c : ℕ) → ((j : ℕ) → j < c → sh (at n j) ≡ at n j) → Holds lf S (at n 0) (take c b)
   front-part c f =
@@ -133,12 +139,12 @@ module _ {A : Type 0} (lf : A → Bool) {Free : A → Type 0} (lfs : (x : A) →
 
   back-part : (c d : ℕ) → ((j : ℕ) → c ≤ j → j < length b → sh (at n j) ≡ at n (d + (j - c))) → Holds lf S (at n d) (drop c b)
   back-part c d f = elim (decLe c (length b)) [
-      yes l ↦ (let o : at n 0 ⊕ endOf lf (take c b) ≡ at n c = row-end lf n 0 (take c b) (all-take (λ x. not (lf x)) c b plain) ∙ rw (length-take-le c b l, zero-add) in
+    | yes l ↦ (let o : at n 0 ⊕ endOf lf (take c b) ≡ at n c = row-end lf n 0 (take c b) (all-take (λ x. not (lf x)) c b plain) ∙ rw (length-take-le c b l, zero-add) in
         part c d (drop c b) (all-drop (λ x. not (lf x)) c b plain)
         (λ j k. let e : d + (c + j - c) ≡ d + j = omega arith in f (c + j) (omega arith) (omega (arith, length-drop c b)) ∙ ap (at n) e)
         (subst (λ (p : Position). Holds lf R p (drop c b)) o (holds-right lf R (at n 0) (take c b) (drop c b) (rw (take-append-drop c b) h))))
-      | no l ↦ (let z : length b ≤ c = omega arith in rw (drop-of-length-le b z) (holds-none lf S (at n d)))
-    ]
+    | no l ↦ (let z : length b ≤ c = omega arith in rw (drop-of-length-le b z) (holds-none lf S (at n d)))
+  ]
 
 -- ---- chunks that come in
 
@@ -150,6 +156,7 @@ put-parts {A} pad c k b = elim (decLe (length b) c) [ yes h ↦ short h | no h �
     short h =
         let n : length (b ++ replicate (c - length b) pad) ≤ c = omega (arith, length-append b (replicate (c - length b) pad), length-replicate (c - length b) pad) in
         rw (take-all c (b ++ replicate (c - length b) pad) n, drop-of-length-le (b ++ replicate (c - length b) pad) n, take-all c b h, drop-of-length-le b h) (append-assoc b (replicate (c - length b) pad) (k ++ []))
+
     long : c ≤ length b → put pad c k b ≡ take c b ++ (replicate (c - length b) pad ++ (k ++ drop c b))
     long h = let z : c - length b ≡ 0 = omega arith in rw (z, append-nil b)
 
@@ -167,25 +174,25 @@ module _ {A : Type 0} (lf : A → Bool) {Free : A → Type 0} (lfs : (x : A) →
   unfolding Chunk
   put-row = record {
     unbroken = λ k h b p.
-      rw (put-parts pad c k b)
-      (all-append (λ x. not (lf x)) (take c b) (replicate (c - length b) pad ++ (k ++ drop c b)) (all-take (λ x. not (lf x)) c b p)
-      (all-append (λ x. not (lf x)) (replicate (c - length b) pad) (k ++ drop c b) (all-replicate (λ x. not (lf x)) (c - length b) pad dull)
-      (all-append (λ x. not (lf x)) k (drop c b) (h .0) (all-drop (λ x. not (lf x)) c b p))));
+        rw (put-parts pad c k b)
+        (all-append (λ x. not (lf x)) (take c b) (replicate (c - length b) pad ++ (k ++ drop c b)) (all-take (λ x. not (lf x)) c b p)
+        (all-append (λ x. not (lf x)) (replicate (c - length b) pad) (k ++ drop c b) (all-replicate (λ x. not (lf x)) (c - length b) pad dull)
+        (all-append (λ x. not (lf x)) k (drop c b) (h .0) (all-drop (λ x. not (lf x)) c b p))));
     letters = λ k h n b p sh f R S carry free e.
-      let P : List A = replicate (c - length b) pad in
-      let start : at n 0 ⊕ endOf lf (take c b) ⊕ endOf lf P ≡ at n c =
-      rw (row-end lf n 0 (take c b) (all-take (λ x. not (lf x)) c b p), row-end lf n (0 + length (take c b)) P (all-replicate (λ x. not (lf x)) (c - length b) pad dull), length-replicate (c - length b) pad, length-take c b)
-      (ap (at n) (omega arith)) in
-      rw (put-parts pad c k b)
-      (holds-append lf S (at n 0) (take c b) (P ++ (k ++ drop c b)) (front-part lf lfs R S sh carry free n b p e c (λ j l. f j ∙ ap (at n) (put-left c (length k) j l)))
-      (holds-append lf S (at n 0 ⊕ endOf lf (take c b)) P (k ++ drop c b) (holds-anywhere lf S P (λ s x r i o. free o x (one-only Free (c - length b) pad padded s x r i)) (at n 0 ⊕ endOf lf (take c b)))
-      (rw start (holds-append lf S (at n c) k (drop c b) (holds-anywhere lf S k (λ s x r i o. free o x (h .1 s x r i)) (at n c))
-      (rw (row-end lf n c k (h .0)) (back-part lf lfs R S sh carry free n b p e c (c + length k) (λ j l m. f j ∙ ap (at n) (put-right c (length k) j l ∙ omega arith))))))));
+        let P : List A = replicate (c - length b) pad in
+        let start : at n 0 ⊕ endOf lf (take c b) ⊕ endOf lf P ≡ at n c =
+        rw (row-end lf n 0 (take c b) (all-take (λ x. not (lf x)) c b p), row-end lf n (0 + length (take c b)) P (all-replicate (λ x. not (lf x)) (c - length b) pad dull), length-replicate (c - length b) pad, length-take c b)
+        (ap (at n) (omega arith)) in
+        rw (put-parts pad c k b)
+        (holds-append lf S (at n 0) (take c b) (P ++ (k ++ drop c b)) (front-part lf lfs R S sh carry free n b p e c (λ j l. f j ∙ ap (at n) (put-left c (length k) j l)))
+        (holds-append lf S (at n 0 ⊕ endOf lf (take c b)) P (k ++ drop c b) (holds-anywhere lf S P (λ s x r i o. free o x (one-only Free (c - length b) pad padded s x r i)) (at n 0 ⊕ endOf lf (take c b)))
+        (rw start (holds-append lf S (at n c) k (drop c b) (holds-anywhere lf S k (λ s x r i o. free o x (h .1 s x r i)) (at n c))
+        (rw (row-end lf n c k (h .0)) (back-part lf lfs R S sh carry free n b p e c (c + length k) (λ j l m. f j ∙ ap (at n) (put-right c (length k) j l ∙ omega arith))))))));
     within = λ k h b j l.
-      let n : length (put pad c k b) ≡ max c (length b) + length k =
-      ap length (put-parts pad c k b)
-      ∙ omega (arith, length-append (take c b) (replicate (c - length b) pad ++ (k ++ drop c b)), length-append (replicate (c - length b) pad) (k ++ drop c b), length-append k (drop c b), length-take c b, length-drop c b, length-replicate {A = A} (c - length b) pad) in
-      elim (decLe c j) [ yes m ↦ rw (put-right c (length k) j m) (omega arith) | no m ↦ rw (put-left c (length k) j (omega arith)) (omega arith) ];
+        let n : length (put pad c k b) ≡ max c (length b) + length k =
+        ap length (put-parts pad c k b)
+        ∙ omega (arith, length-append (take c b) (replicate (c - length b) pad ++ (k ++ drop c b)), length-append (replicate (c - length b) pad) (k ++ drop c b), length-append k (drop c b), length-take c b, length-drop c b, length-replicate {A = A} (c - length b) pad) in
+        elim (decLe c j) [ yes m ↦ rw (put-right c (length k) j m) (omega arith) | no m ↦ rw (put-left c (length k) j (omega arith)) (omega arith) ];
   }
 
   put-all : (ks : List (List A)) (rs : List (Line A)) → putAll pad c ks rs ≡ rebodied (put pad c) ks rs
@@ -201,7 +208,7 @@ module _ {A : Type 0} (lf : A → Bool) {Free : A → Type 0} (lfs : (x : A) →
   chunks (n ∷ ns) X p fresh = (
     (all-take (λ x. not (lf x)) n X p, λ s x r i. fresh s x (r ++ drop n X) (sym (take-append-drop n X) ∙ ap (λ (l : List A). l ++ drop n X) i ∙ append-assoc s (x ∷ r) (drop n X))),
     chunks ns (drop n X) (all-drop (λ x. not (lf x)) n X p)
-    (λ s x r i. fresh (take n X ++ s) x r (sym (take-append-drop n X) ∙ ap (λ (l : List A). take n X ++ l) i ∙ sym (append-assoc (take n X) s (x ∷ r)))),
+        (λ s x r i. fresh (take n X ++ s) x r (sym (take-append-drop n X) ∙ ap (λ (l : List A). take n X ++ l) i ∙ sym (append-assoc (take n X) s (x ∷ r)))),
   )
 
 module _ {A : Type 0} (lf sp : A → Bool) {Free : A → Type 0} (lfs : (x : A) → lf x ≡ true → Free x) (made : Made A) (t : List A) where
@@ -238,21 +245,21 @@ module _ {A : Type 0} (lf : A → Bool) {Free : A → Type 0} (lfs : (x : A) →
   cut-row = record {
     unbroken = λ w h b p. all-append (λ x. not (lf x)) (take c b) (drop (c + w) b) (all-take (λ x. not (lf x)) c b p) (all-drop (λ x. not (lf x)) (c + w) b p);
     letters = λ w h n b p sh f R S carry free e.
-      holds-append lf S (at n 0) (take c b) (drop (c + w) b) (front-part lf lfs R S sh carry free n b p e c (λ j l. f j ∙ ap (at n) (cut-left c w j (omega arith))))
-      (elim (decLe c (length b)) [
-        yes l ↦ rw (row-end lf n 0 (take c b) (all-take (λ x. not (lf x)) c b p), length-take-le c b l, zero-add)
-          (back-part lf lfs R S sh carry free n b p e (c + w) c (λ j k m. f j ∙ ap (at n) (cut-right c w j k ∙ omega arith)))
-        | no l ↦ (let z : length b ≤ c + w = omega arith in rw (drop-of-length-le b z) (holds-none lf S (at n 0 ⊕ endOf lf (take c b))))
-      ]);
+        holds-append lf S (at n 0) (take c b) (drop (c + w) b) (front-part lf lfs R S sh carry free n b p e c (λ j l. f j ∙ ap (at n) (cut-left c w j (omega arith))))
+        (elim (decLe c (length b)) [
+          | yes l ↦ rw (row-end lf n 0 (take c b) (all-take (λ x. not (lf x)) c b p), length-take-le c b l, zero-add)
+              (back-part lf lfs R S sh carry free n b p e (c + w) c (λ j k m. f j ∙ ap (at n) (cut-right c w j k ∙ omega arith)))
+          | no l ↦ (let z : length b ≤ c + w = omega arith in rw (drop-of-length-le b z) (holds-none lf S (at n 0 ⊕ endOf lf (take c b))))
+        ]);
     within = λ w h b j l.
-      let n : length (take c b ++ drop (c + w) b) ≡ length (take c b) + length (drop (c + w) b) = length-append (take c b) (drop (c + w) b) in
-      elim (decLe j c) [
-        yes m ↦ rw (cut-left c w j m) (omega (arith, n, length-take c b, length-drop (c + w) b))
-        | no m ↦ elim (decLe (c + w) j) [
-          yes k ↦ rw (cut-right c w j k) (omega (arith, n, length-take c b, length-drop (c + w) b))
-          | no k ↦ rw (cut-within c w j (omega arith) (omega arith)) (omega (arith, n, length-take c b, length-drop (c + w) b))
-        ]
-      ];
+        let n : length (take c b ++ drop (c + w) b) ≡ length (take c b) + length (drop (c + w) b) = length-append (take c b) (drop (c + w) b) in
+        elim (decLe j c) [
+          | yes m ↦ rw (cut-left c w j m) (omega (arith, n, length-take c b, length-drop (c + w) b))
+          | no m ↦ elim (decLe (c + w) j) [
+            | yes k ↦ rw (cut-right c w j k) (omega (arith, n, length-take c b, length-drop (c + w) b))
+            | no k ↦ rw (cut-within c w j (omega arith) (omega arith)) (omega (arith, n, length-take c b, length-drop (c + w) b))
+          ]
+        ];
   }
 
 all-plain : (ws : List ℕ) → All (λ (w : ℕ). Unit {0}) ws

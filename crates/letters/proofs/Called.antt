@@ -154,9 +154,9 @@ unfolding Known
 code-letters-stay s z r = record {
   last = origins-keep-text (text s) (edits r) ∙ run-text r;
   letters = λ before behind c p l.
-    let k = run-led r 0 (opened (text s)) (opened-value (at 0 0) (text s)) (λ p q. p ≡ q) (opened-known (λ p q. p ≡ q) (λ p. refl) (at 0 0) (text s)) in
-    let m = holds-one lfAt (Known (λ p q. (m : Position) × (p ≡ m) × FollowedTo r m q)) (at 0 0) before c behind (rw (l .stands) at k) p (l .from) (l .other) in
-    rw (m .1, ← add-origin (endOf lfAt before)) (m .2);
+      let k = run-led r 0 (opened (text s)) (opened-value (at 0 0) (text s)) (λ p q. p ≡ q) (opened-known (λ p q. p ≡ q) (λ p. refl) (at 0 0) (text s)) in
+      let m = holds-one lfAt (Known (λ p q. (m : Position) × (p ≡ m) × FollowedTo r m q)) (at 0 0) before c behind (rw (l .stands) at k) p (l .from) (l .other) in
+      rw (m .1, ← add-origin (endOf lfAt before)) (m .2);
 }
 
 -- ---- marks
@@ -167,10 +167,14 @@ never-pass stop p q mp mq u = u
 never-pass (step {s = s} {u = v} {e = w} h r) p q mp mq u = (
   u,
   λ sp sq c d.
-    let l = marks-meet (text s) w (keeps-whole h) p q mp mq u in
-    let t = text-after h in
-    (l .first, l .second, answers h p (l .first) sp (l .lands) c, answers h q (l .second) sq (l .lands-second) d,
-    never-pass r (l .first) (l .second) (subst (λ (x : List ℕ). Markable x (l .first)) t (l .kept)) (subst (λ (x : List ℕ). Markable x (l .second)) t (l .kept-second)) (l .order)),
+      let l = marks-meet (text s) w (keeps-whole h) p q mp mq u in
+      let t = text-after h in (
+        l .first,
+        l .second,
+        answers h p (l .first) sp (l .lands) c,
+        answers h q (l .second) sq (l .lands-second) d,
+        never-pass r (l .first) (l .second) (subst (λ (x : List ℕ). Markable x (l .first)) t (l .kept)) (subst (λ (x : List ℕ). Markable x (l .second)) t (l .kept-second)) (l .order),
+      ),
 )
 
 pub code-marks-meet : CodeMarksMeet

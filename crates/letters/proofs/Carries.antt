@@ -38,18 +38,18 @@ module _ {A : Type 0} (lf : A → Bool) where
 
   pub within-near : (t : List A) (p : Position) → Within t p → Near t p
   within-near t p h = elim (decLe (lastRow lf t) (p .row .0)) [
-      yes l ↦ elim (decLe (p .row .0) (lastRow lf t)) [
-        yes m ↦ last (omega arith)
-        | no m ↦ inr (rw (end-is t) (is-upto (at (lastRow lf t) (rowLen lf t (lastRow lf t))) p (inl (omega arith))))
-      ]
-      | no l ↦ inl (clamp-place lf t (p .row .0) (p .col .0) (omega arith) (h (omega arith)))
+    | yes l ↦ elim (decLe (p .row .0) (lastRow lf t)) [
+      | yes m ↦ last (omega arith)
+      | no m ↦ inr (rw (end-is t) (is-upto (at (lastRow lf t) (rowLen lf t (lastRow lf t))) p (inl (omega arith))))
     ]
+    | no l ↦ inl (clamp-place lf t (p .row .0) (p .col .0) (omega arith) (h (omega arith)))
+  ]
     where
       last : lastRow lf t ≡ p .row .0 → Near t p
       last e = elim (decLe (p .col .0) (rowLen lf t (p .row .0))) [
-          yes c ↦ inl (clamp-place lf t (p .row .0) (p .col .0) (omega arith) c)
-          | no c ↦ inr (rw (end-is t, e) (is-upto (at (p .row .0) (rowLen lf t (p .row .0))) p (inr (refl, omega arith))))
-        ]
+        | yes c ↦ inl (clamp-place lf t (p .row .0) (p .col .0) (omega arith) c)
+        | no c ↦ inr (rw (end-is t, e) (is-upto (at (p .row .0) (rowLen lf t (p .row .0))) p (inr (refl, omega arith))))
+      ]
 
   -- Free elements, LF among them, may stand anywhere.
   pub record Carries (Free : A → Type 0) (sh : Position → Position) (t u : List A) : Type 1 where
@@ -62,9 +62,9 @@ module _ {A : Type 0} (lf : A → Bool) where
     pub carries-then : {f g : Position → Position} {t u v : List A} → Carries Free f t u → Carries Free g u v → Carries Free (λ p. g (f p)) t v
     carries-then {f} {g} {t} {u} {v} c d = record {
       letters = λ R S carry free h.
-        d .letters (λ q x. Free x ⊎ ((p : Position) × (f p ≡ q) × R p x)) S
-        (λ q x n m. ⊎-elim (free (g q) x) (λ e. subst (λ (z : Position). S (g z) x) (e .1) (carry (e .0) x n (e .2))) m) free
-        (c .letters R (λ q x. Free x ⊎ ((p : Position) × (f p ≡ q) × R p x)) (λ p x n r. inr (p, refl, r)) (λ p x w. inl w) h);
+          d .letters (λ q x. Free x ⊎ ((p : Position) × (f p ≡ q) × R p x)) S
+          (λ q x n m. ⊎-elim (free (g q) x) (λ e. subst (λ (z : Position). S (g z) x) (e .1) (carry (e .0) x n (e .2))) m) free
+          (c .letters R (λ q x. Free x ⊎ ((p : Position) × (f p ≡ q) × R p x)) (λ p x n r. inr (p, refl, r)) (λ p x w. inl w) h);
       marks = λ p m. d .marks (f p) (c .marks p m);
       order = λ p q m h. d .order (f p) (f q) (c .marks p m) (c .order p q m h);
     }

@@ -116,8 +116,8 @@ module _ {A : Type 0} (lf : A → Bool) {Free : A → Type 0} (lfs : (x : A) →
         λ d. rw (ends, begins, delete-behind a b u d, insert-behind a y d, ey) in
         let c : Splice lf sh P X Y Q = record {
           ahead = λ s x r k.
-            let n = stays s x r k in
-            ap (λ (q : Position). afterInsert q a y) (sym (delete-before (endOf lf s) a b (upto-total a (endOf lf s) n))) ∙ sym (insert-before (endOf lf s) a y n);
+              let n = stays s x r k in
+              ap (λ (q : Position). afterInsert q a y) (sym (delete-before (endOf lf s) a b (upto-total a (endOf lf s) n))) ∙ sym (insert-before (endOf lf s) a y n);
           inside = λ s x r k. subst (λ (l : List A). Near lf l (sh (endOf lf P ⊕ endOf lf s))) (append-assoc P Y Q) (near-at lf (P ++ Y) Q (sh (endOf lf P ⊕ endOf lf s)) (there s x r k));
           goes = λ s x r k. g (endOf lf s);
           outside = past-goes lf sh P X Y Q g;
@@ -161,20 +161,27 @@ module _ {A : Type 0} (lf : A → Bool) {Free : A → Type 0} (lfs : (x : A) →
       where
         x : ℕ
         x = offset lf t (at lo 0)
+
         y : ℕ
         y = rowStart lf t (suc hi)
+
         begins : endOf lf (take x t) ≡ at lo 0
         begins = end-take lf t (at lo 0) ∙ clamp-place lf t lo 0 (omega arith) (omega arith)
+
         last : offset lf t (at (suc hi) 0) ≡ y
         last = offset-place lf t (suc hi) 0 l (omega arith) ∙ add-zero (rowStart lf t (suc hi))
+
         le : x ≤ y
         le = omega (arith, offset-place lf t lo 0 (omega arith) (omega arith), add-zero (rowStart lf t lo), start-mono lf t lo (suc hi) (omega arith))
+
         ends : endOf lf (take x t) ⊕ endOf lf (slice x y t) ≡ at (suc hi) 0
         ends =
             sym (end-append lf (take x t) (slice x y t)) ∙ ap (endOf lf) (front-slice x y t le)
             ∙ subst (λ (n : ℕ). endOf lf (take n t) ≡ at (suc hi) 0) last (end-take lf t (at (suc hi) 0) ∙ clamp-place lf t (suc hi) 0 l (omega arith))
+
         g : (d : Position) → sh (endOf lf (take x t) ⊕ endOf lf (slice x y t) ⊕ d) ≡ endOf lf (take x t) ⊕ endOf lf [] ⊕ d
         g d = rw (ends, begins, end-first lf (at lo 0)) (lines-behind lo hi u d)
+
         collapses : (s : List A) (z : A) (r : List A) → slice x y t ≡ s ++ z ∷ r → sh (endOf lf (take x t) ⊕ endOf lf s) ≡ at lo 0
         collapses s z r q =
             let p : Position = endOf lf (take x t) ⊕ endOf lf s in
@@ -182,6 +189,7 @@ module _ {A : Type 0} (lf : A → Bool) {Free : A → Type 0} (lfs : (x : A) →
             let n : upto (at (suc hi) 0) p ≡ false = subst (λ (q : Position). upto q p ≡ false) (sym w) (past-end lf z r p) in
             let f : lo ≤ p .row .0 = row-le (at lo 0) p (rw begins (behind (at lo 0) (endOf lf s))) in
             sym (lines-inside p lo hi f (⊎-elim (λ k. omega arith) (λ k. absurd (omega arith)) (past-is (at (suc hi) 0) p n)))
+
         c : Splice lf sh (take x t) (slice x y t) [] (drop y t)
         c = record {
           ahead = λ s z r q. sym (lines-above (endOf lf s) lo hi (⊎-elim (λ k. omega arith) (λ k. absurd (omega arith)) (past-is (at lo 0) (endOf lf s) (subst (λ (p : Position). upto p (endOf lf s) ≡ false) begins (before-end (take x t) s z r q)))));
@@ -196,8 +204,10 @@ module _ {A : Type 0} (lf : A → Bool) {Free : A → Type 0} (lfs : (x : A) →
     where
       lo : ℕ
       lo = min (min (a .row .0) (b .row .0)) (lastRow lf t)
+
       hi : ℕ
       hi = min (max (a .row .0) (b .row .0)) (lastRow lf t)
+
       go : (c : Bool) → ltb hi (lastRow lf t) ≡ c → (d : Bool) → ltb 0 lo ≡ d
           → Carries lf Free (λ p. afterDeleteLines p (a .row .0) (b .row .0)) t (spliced t (offset lf t (cond c (at lo 0) (cond d (at (lo - 1) (rowLen lf t (lo - 1))) (at 0 0)))) (cond c (rowStart lf t (suc hi)) (length t)) [])
       go true i d j =

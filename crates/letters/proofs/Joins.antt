@@ -44,17 +44,18 @@ module _ (r c : ℕ) where
 
   join-order : (p q : Position) → (p .row .0 ≡ r → p .col .0 ≤ c) → upto p q ≡ true → upto (landed r (c ∷ []) p) (landed r (c ∷ []) q) ≡ true
   join-order p q within h = elim (decLe (p .row .0) r) [
-      yes a ↦ rw (landed-above r (c ∷ []) p a) (elim (decLe (q .row .0) r) [
-        yes b ↦ rw (landed-above r (c ∷ []) q b) h
-        | no b ↦ (let d = low q (omega arith) in rw (d .is, join-behind (d .by)) (upto-trans p (at r c) (at r c ⊕ d .by) (ahead a) (behind (at r c) (d .by))))
-      ])
-      | no a ↦ (let d = low p (omega arith) in
+    | yes a ↦ rw (landed-above r (c ∷ []) p a) (elim (decLe (q .row .0) r) [
+      | yes b ↦ rw (landed-above r (c ∷ []) q b) h
+      | no b ↦ (let d = low q (omega arith) in rw (d .is, join-behind (d .by)) (upto-trans p (at r c) (at r c ⊕ d .by) (ahead a) (behind (at r c) (d .by))))
+    ])
+    | no a ↦ (let d = low p (omega arith) in
         let e = low q (omega (arith, row-le p q h)) in
         rw (d .is, e .is, join-behind (d .by), join-behind (e .by)) (order-moved (at (suc r) 0) (at r c) (d .by) (e .by) (rw (d .is, e .is) at h)))
-    ]
+  ]
     where
       low : (p : Position) → r < p .row .0 → Apart (at (suc r) 0) p
       low p l = apart (at (suc r) 0) p (is-upto (at (suc r) 0) p (elim (decLe (p .row .0) (suc r)) [ yes k ↦ inr (omega arith, omega arith) | no k ↦ inl (omega arith) ]))
+
       ahead : p .row .0 ≤ r → upto p (at r c) ≡ true
       ahead a = is-upto p (at r c) (elim (decLe r (p .row .0)) [ yes k ↦ (let e : p .row .0 ≡ r = omega arith in inr (e, within e)) | no k ↦ inl (omega arith) ])
 
@@ -66,9 +67,11 @@ module _ {A : Type 0} (lf : A → Bool) {Free : A → Type 0} (lfs : (x : A) →
     where
       none : [] ≡ u ++ x ∷ v → Free x
       none e = let n : zero ≡ length (u ++ x ∷ v) = ap length e in absurd (omega (arith, length-append u (x ∷ v)))
+
       one : (u : List A) → space ∷ [] ≡ u ++ x ∷ v → Free x
       one [] e = let k : space ≡ x = cc in subst Free k spaced
       one (w ∷ u) e = let n : suc zero ≡ suc (length (u ++ x ∷ v)) = ap length e in absurd (omega (arith, length-append u (x ∷ v)))
+
       go : (b : Bool) (r s : List A) → gap space b r s ≡ u ++ x ∷ v → Free x
       go true (y ∷ r) (z ∷ s) e = one u e
       go true (y ∷ r) [] e = none e

@@ -7,3 +7,4 @@ pub mod Joins
 pub mod Goings
 pub mod Theorems
 pub mod Called
+pub mod Examples

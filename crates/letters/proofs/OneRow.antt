@@ -50,8 +50,8 @@ module _ {A : Type 0} (lf : A → Bool) where
     pub carries-still : (t : List A) → ((m j : ℕ) → m ≤ lastRow lf t → col m j ≡ j) → Carries lf Free sh t t
     carries-still t h = record {
       letters = λ R S carry free.
-        holds-carried lf R S sh carry (λ p x e. free p x (lfs x e)) (at 0 0) (at 0 0) t
-        (λ s x r i n. rw (add-origin (endOf lf s)) (still (endOf lf s) (h (endOf lf s .row .0) (endOf lf s .col .0) (rw i (row-in s (x ∷ r))))));
+          holds-carried lf R S sh carry (λ p x e. free p x (lfs x e)) (at 0 0) (at 0 0) t
+          (λ s x r i n. rw (add-origin (endOf lf s)) (still (endOf lf s) (h (endOf lf s .row .0) (endOf lf s .col .0) (rw i (row-in s (x ∷ r))))));
       marks = λ p m. within-near lf t (sh p) (rw (g .is (p .row .0) (p .col .0)) (λ l. rw (h (p .row .0) (p .col .0) (omega arith)) (near-within lf t p m l)));
       order = λ p q m u. rows-order sh col g p q u;
     }
@@ -114,16 +114,20 @@ module _ {A : Type 0} (lf : A → Bool) where
         where
           was : lines lf before ≡ X ++ line b a ∷ Y
           was = lines-unlines lf h
+
           is : lines lf after ≡ X ++ line c a ∷ Y
           is = lines-unlines lf broken-after
+
           same-last : lastRow lf before ≡ lastRow lf after
           same-last = omega (arith, last-is before (X ++ line b a ∷ Y) was, last-is after (X ++ line c a ∷ Y) is, length-append X (line b a ∷ Y), length-append X (line c a ∷ Y))
+
           here : p .row .0 ≡ r → p .col .0 ≤ rowLen lf before (p .row .0) → col (p .row .0) (p .col .0) ≤ rowLen lf after (p .row .0)
           here e k =
               let x : rowLen lf before r ≡ length b = len-is before (X ++ line b a ∷ Y) r was ∙ ap (λ (l : Line A). length (l .body)) (getD-append-seam X (line b a) Y (line [] [])) in
               let y : rowLen lf after r ≡ length c = len-is after (X ++ line c a ∷ Y) r is ∙ ap (λ (l : Line A). length (l .body)) (getD-append-seam X (line c a) Y (line [] [])) in
               let j : p .col .0 ≤ length b = rw (e, x) at k in
               rw (e, y) (within (p .col .0) j)
+
           beside : (p .row .0 ≡ r → ⊥) → p .col .0 ≤ rowLen lf before (p .row .0) → col (p .row .0) (p .col .0) ≤ rowLen lf after (p .row .0)
           beside e k =
               let m : ℕ = p .row .0 in

@@ -69,8 +69,10 @@ module _ {A : Type 0} (lf : A → Bool) where
         in-front h =
             let w : s ++ ((x ∷ (h .0)) ++ (Y ++ Q)) ≡ P ++ (Y ++ Q) = sym (append-assoc s (x ∷ (h .0)) (Y ++ Q)) ∙ ap (λ (l : List A). l ++ (Y ++ Q)) (sym (h .1)) in
             rw (c .ahead s x (h .0) (h .1)) (subst (λ (l : List A). Near lf l (end s)) w (near-front lf s ((x ∷ (h .0)) ++ (Y ++ Q))))
+
         in-part : (h : (m : List A) × (s ≡ P ++ m) × (X ++ Q ≡ m ++ x ∷ r)) → (n : List A) × (X ≡ h .0 ++ x ∷ n) → Near lf (P ++ (Y ++ Q)) (sh (end s))
         in-part h k = rw (h .1, end-append lf P (h .0)) (c .inside (h .0) x (k .0) (k .1))
+
         in-back : (h : (m : List A) × (s ≡ P ++ m) × (X ++ Q ≡ m ++ x ∷ r)) → (n : List A) × (h .0 ≡ X ++ n) × (Q ≡ n ++ x ∷ r) → Near lf (P ++ (Y ++ Q)) (sh (end s))
         in-back h k =
             let n : List A = k .0 in
@@ -84,6 +86,7 @@ module _ {A : Type 0} (lf : A → Bool) where
       where
         t : List A
         t = P ++ (X ++ Q)
+
         go : (r : List A) → drop o t ≡ r → Near lf (P ++ (Y ++ Q)) (sh (end (take o t)))
         go [] e =
             let w : take o t ≡ t = sym (append-nil (take o t)) ∙ ap (λ (l : List A). take o t ++ l) (sym e) ∙ take-append-drop o t in
@@ -95,6 +98,6 @@ module _ {A : Type 0} (lf : A → Bool) where
     carries-splice lfs fresh order = record {
       letters = λ R S carry free h. splice-letters R S carry (λ p x e. free p x (lfs x e)) (λ s x r i p. free p x (fresh s x r i)) h;
       marks = λ p h.
-        ⊎-elim (λ k. subst (λ (q : Position). Near lf (P ++ (Y ++ Q)) (sh q)) (end-take lf (P ++ (X ++ Q)) p ∙ k) (place-near (offset lf (P ++ (X ++ Q)) p))) (λ k. inr (c .outside p k)) h;
+          ⊎-elim (λ k. subst (λ (q : Position). Near lf (P ++ (Y ++ Q)) (sh q)) (end-take lf (P ++ (X ++ Q)) p ∙ k) (place-near (offset lf (P ++ (X ++ Q)) p))) (λ k. inr (c .outside p k)) h;
       order = order;
     }

@@ -53,7 +53,7 @@ opened-known K h o [] = tt
 opened-known K h o (x ∷ t) = (
   λ p e n. let q : o ≡ p = cc in subst (λ (z : Position). K z o) q (h o),
   subst (λ (q : Position). Holds lfAt (Known K) q (openedAt (o ⊕ endOf isLF (x ∷ [])) t)) (ap (λ (q : Position). o ⊕ q) (map-end value lfAt isLF (λ c. refl) (traced x (opening o) ∷ [])))
-  (opened-known K h (o ⊕ endOf isLF (x ∷ [])) t),
+      (opened-known K h (o ⊕ endOf isLF (x ∷ [])) t),
 )
 
 -- one edit: from K to whatever K and the shift give

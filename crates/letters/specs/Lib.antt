@@ -1,3 +1,4 @@
 pub mod Keeps
 pub mod Theorems
 pub mod Calls
+pub mod Examples
