@@ -6,7 +6,8 @@ use crate::random::Random;
 use crate::tally::Tally;
 use crate::work::{Extent, Work};
 use crate::{
-    boxes, cursors, edits, ends, framed, merges, places, reads, runs, scripts, shifts, spans, utf8,
+    boxes, cursors, edits, ends, framed, letters, merges, places, reads, runs, scripts, shifts,
+    spans, utf8,
 };
 
 /// A group; where its cases are random, how many of them a tiny and a quick run have, and of a thousand a long one.
@@ -44,7 +45,7 @@ const fn random(
     }
 }
 
-const GROUPS: [Group; 33] = [
+const GROUPS: [Group; 34] = [
     exhaustive("small edits", edits::small),
     random("edits", edits::random, 3_000, 400_000, 260),
     random("wrong edits", edits::wrong, 3_000, 300_000, 200),
@@ -62,6 +63,7 @@ const GROUPS: [Group; 33] = [
     random("runs undone and redone", runs::random, 100, 10_000, 10),
     exhaustive("small shifts", shifts::small),
     random("shifts", shifts::random, 3_000, 500_000, 200),
+    random("letters over runs", letters::random, 100, 10_000, 10),
     exhaustive("small merges", merges::small),
     random("merges", merges::random, 1_000, 50_000, 30),
     exhaustive("small row spans", spans::small),

@@ -1,7 +1,7 @@
 //! The core beside the original and document 01: the same input to both, and all that comes of it compared.
 //!
 //! `law` says what document 01 and the original make of a call, `widths` which characters are wide and `told` what a caller is told, `lend` and `guard` lend its slices
-//! to the core and look them over afterwards, `small`, `cases`, `limits`, `bruises` and `damage` make the input, and `groups` runs it.
+//! to the core and look them over afterwards, `small`, `cases`, `limits`, `bruises` and `damage` make the input, `met` counts what runs have met, and `groups` runs it all.
 
 pub mod boxes;
 pub mod bridge;
@@ -19,8 +19,10 @@ pub mod groups;
 pub mod guard;
 pub mod law;
 pub mod lend;
+pub mod letters;
 pub mod limits;
 pub mod merges;
+pub mod met;
 pub mod places;
 pub mod random;
 pub mod reads;

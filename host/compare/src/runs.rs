@@ -13,7 +13,7 @@ use crate::random::Random;
 use crate::tally::{Input, Verdict};
 use crate::work::Work;
 
-/// An opening text in its buffer, and edits that are tried one after another; those that are refused or not undoable are left out.
+/// An opening text in its buffer, and edits that are made one after another.
 pub struct Run {
     pub buffer: Vec<u32>,
     pub used: usize,
@@ -22,17 +22,17 @@ pub struct Run {
 
 /// A text in its buffer.
 #[derive(Clone, PartialEq, Eq)]
-struct State {
+pub struct State {
     buffer: Vec<u32>,
     used: usize,
 }
 
 impl State {
-    fn text(&self) -> &[u32] {
+    pub fn text(&self) -> &[u32] {
         &self.buffer[..self.used]
     }
 
-    fn call(&self, whole: &Whole) -> Call {
+    pub fn call(&self, whole: &Whole) -> Call {
         Call {
             buffer: self.buffer.clone(),
             view: View {
@@ -45,7 +45,7 @@ impl State {
     }
 
     /// The state after the edit, and its inverse; none where the edit is refused.
-    fn step(&self, whole: &Whole) -> Result<Option<(State, Whole)>, String> {
+    pub fn step(&self, whole: &Whole) -> Result<Option<(State, Whole)>, String> {
         let call = self.call(whole);
         let given = Given::of(whole);
         let mut written = Written::of(&call.buffer, call.room);
@@ -109,11 +109,16 @@ impl Made {
 }
 
 impl Run {
-    fn make(&self) -> Result<Made, String> {
-        let mut made = Made::from(State {
+    pub fn opening(&self) -> State {
+        State {
             buffer: self.buffer.clone(),
             used: self.used,
-        });
+        }
+    }
+
+    /// Edits that are refused or not undoable are left out.
+    fn make(&self) -> Result<Made, String> {
+        let mut made = Made::from(self.opening());
         for whole in &self.edits {
             if edits::undoable(&made.last.call(whole))?.yes
                 && let Some(step) = made.last.step(whole)?

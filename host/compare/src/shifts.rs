@@ -2,6 +2,7 @@
 
 use std::fmt;
 
+use winchbarn::raw::Place;
 use winchbarn::{Position, Sel, raw};
 
 use crate::bridge;
@@ -79,7 +80,7 @@ impl<'a> Shift<'a> {
         Ok(shifted.map(bridge::place_back))
     }
 
-    fn expect_kept(&self) -> Result<(), String> {
+    pub fn expect_kept(&self) -> Result<(), String> {
         self.given.expect_kept()?;
         self.text.expect_kept("text")
     }
@@ -98,8 +99,9 @@ impl<'a> Shift<'a> {
         told::same(&self.sel(sel), told::sel_placed, answer)
     }
 
-    pub fn compare_position(&self, pos: Position) -> Verdict {
-        let answer = raw::shift_position(
+    /// Where the core puts the position.
+    pub fn answer(&self, pos: Position) -> Place {
+        raw::shift_position(
             self.text.lent(),
             self.call.view,
             self.call.whole.edit,
@@ -107,7 +109,11 @@ impl<'a> Shift<'a> {
             self.given.first.lent(),
             self.given.second.lent(),
             pos,
-        );
+        )
+    }
+
+    pub fn compare_position(&self, pos: Position) -> Verdict {
+        let answer = self.answer(pos);
         self.expect_kept()?;
         told::same(&self.position(pos), told::placed, answer)
     }
