@@ -38,8 +38,8 @@ const FOLLOWED: usize = 256;
 /// An opening text's letters go up from this one; no payload, pad or join space is one of them.
 const FIRST_LETTER: u32 = 0x2_0000;
 
-/// Whether request 6 speaks of this edit. A Line delete names rows only, a Block's ends may be in any order, and pads behind the
-/// last width do not count.
+/// Whether request 6 speaks of this edit. A Line delete names rows only, which may lie past the last, a Block's ends may be in any order,
+/// and pads behind the last width do not count.
 pub fn allowed(text: &[u32], whole: &Whole) -> bool {
     let lengths = row_lengths(text);
     let Edit {
@@ -48,7 +48,7 @@ pub fn allowed(text: &[u32], whole: &Whole) -> bool {
     match kind {
         INSERT_CHAR | INSERT_STR => in_text(&lengths, start),
         DELETE_CHAR | REPLACE => in_text(&lengths, start) && in_text(&lengths, end) && start <= end,
-        DELETE_LINE => start.row <= end.row && (end.row as usize) < lengths.len(),
+        DELETE_LINE => start.row <= end.row,
         DELETE_BLOCK | JOIN_LINES | JOIN_LINES_SPACED | INSERT_BLOCK => true,
         DELETE_BLOCK_CHUNKS => whole.first.iter().zip(&whole.second).all(|it| *it.1 == 0),
         _ => false,
@@ -60,15 +60,15 @@ fn in_text(lengths: &[usize], pos: Position) -> bool {
     length.is_some_and(|length| pos.col as usize <= *length)
 }
 
-/// Whether the character at this place is one that the edit, its ends taken as they are, removes.
-fn removes(whole: &Whole, pos: Position) -> bool {
+/// Whether the character at this place, in a text whose last row is this one, is one that the edit, its ends taken as they are, removes.
+fn removes(whole: &Whole, last: u32, pos: Position) -> bool {
     let Edit {
         kind, start, end, ..
     } = whole.edit;
     let between = |a: u32, b: u32, n: u32| a.min(b) <= n && n <= a.max(b);
     match kind {
         DELETE_CHAR | REPLACE => start <= pos && pos < end,
-        DELETE_LINE => between(start.row, end.row, pos.row),
+        DELETE_LINE => between(start.row.min(last), end.row, pos.row),
         DELETE_BLOCK => {
             between(start.row, end.row, pos.row) && between(start.col, end.col, pos.col)
         }
@@ -139,9 +139,14 @@ fn carried(pos: Position, answer: Place) -> Result<Position, String> {
     }
 }
 
-/// Where a letter goes that stood here; nowhere where the edit removes it.
-fn letter_over(whole: &Whole, shift: &Shift, pos: Position) -> Result<Option<Position>, String> {
-    match removes(whole, pos) {
+/// Where a letter goes that stood here, in a text with this last row; nowhere where the edit removes it.
+fn letter_over(
+    whole: &Whole,
+    last: u32,
+    shift: &Shift,
+    pos: Position,
+) -> Result<Option<Position>, String> {
+    match removes(whole, last, pos) {
         true => Ok(None),
         false => carried(pos, shift.answer(pos)).map(Some),
     }
@@ -195,9 +200,10 @@ impl Stage {
     ) -> Result<Vec<Letter>, String> {
         let mut sorted = standing(after);
         sorted.sort_unstable();
+        let last = row_lengths(self.state.text()).len() as u32 - 1;
         let over = |letter: &Letter| {
             let value = letter.value;
-            let at = letter.at.map(|pos| letter_over(whole, shift, pos));
+            let at = letter.at.map(|pos| letter_over(whole, last, shift, pos));
             let at = at.transpose()?.flatten();
             let found = places_of(&sorted, value);
             if found != at.as_slice() {
@@ -325,6 +331,10 @@ fn any_edit(random: &mut Random, text: &[u32]) -> Whole {
         whole.edit.start = places[from];
         whole.edit.end = places[to];
     }
+    if kind == DELETE_LINE && random.one_in(4) {
+        whole.edit.start.row += random.pick(&[0, 0, 1, 9]);
+        whole.edit.end.row = whole.edit.start.row + random.pick(&[0, 1, 9]);
+    }
     if kind == DELETE_BLOCK_CHUNKS {
         let widths = whole.first.len();
         let counted = whole.second.iter_mut().take(widths);
@@ -412,7 +422,8 @@ mod tests {
     fn allowed_is_as_request_6_is_read() {
         let readings = [
             ("a", whole(DELETE_LINE, at(0, 9), at(0, 9)), true),
-            ("a", whole(DELETE_LINE, at(0, 0), at(1, 0)), false),
+            ("a\nb", whole(DELETE_LINE, at(1, 0), at(9, 0)), true),
+            ("a\nb", whole(DELETE_LINE, at(5, 0), at(9, 0)), true),
             ("ab", whole(DELETE_BLOCK, at(0, 1), at(0, 0)), true),
             ("a", whole(DELETE_BLOCK, at(7, 7), at(0, 9)), true),
             ("a", whole(JOIN_LINES, at(9, 0), at(0, 0)), true),

@@ -19,7 +19,7 @@ const ENOUGH: u64 = 1_000;
 /// What an edit between two stages may meet.
 type Situation = fn(&Stage, &Whole, &Stage) -> bool;
 
-const SITUATIONS: [(&str, Situation); 11] = [
+const SITUATIONS: [(&str, Situation); 12] = [
     ("a letter goes down by an insertion", goes_down),
     ("a join adds a space", |a, w, b| spaces(a, w, b).1 > 0),
     ("a join lacks a space", |a, w, b| {
@@ -30,6 +30,7 @@ const SITUATIONS: [(&str, Situation); 11] = [
     ("a Block reaches past a row's end", reaches_past_row),
     ("a Block reaches past the last row", reaches_past_rows),
     ("a Line delete takes the last rows", takes_last_rows),
+    ("a Line delete begins past the last row", begins_past_rows),
     ("a pad stands behind the last width", surplus_pad),
     ("a mark meets another", meet),
     ("a mark is left behind the text's end", |_, _, after| {
@@ -88,6 +89,11 @@ fn takes_last_rows(before: &Stage, whole: &Whole, _: &Stage) -> bool {
     let (start, end) = (whole.edit.start, whole.edit.end);
     let rows = row_lengths(before.state.text()).len();
     whole.edit.kind == DELETE_LINE && start.row > 0 && end.row as usize + 1 == rows
+}
+
+fn begins_past_rows(before: &Stage, whole: &Whole, _: &Stage) -> bool {
+    let rows = row_lengths(before.state.text()).len();
+    whole.edit.kind == DELETE_LINE && rows > 1 && whole.edit.start.row as usize >= rows
 }
 
 fn surplus_pad(_: &Stage, whole: &Whole, _: &Stage) -> bool {
