@@ -8,7 +8,7 @@ use native.Mathlib.Decide.{decLe}
 use native.Mathlib.Omega.{arith}
 use borrow.Author.Tests.{le-leb, eq-eqb}
 use lib.ListN.{length, take, drop, getD, replicate, length-append, length-take, length-drop, length-map, length-replicate, drop-of-length-le, take-append-drop}
-use lib.Seq.{take-append-seam, drop-append-seam, take-length, take-at, drop-at, take-append-le, take-take, take-add, length-take-le}
+use lib.Seq.{take-all, take-append-seam, drop-append-seam, take-length, take-at, drop-at, take-append-le, take-take, take-add, length-take-le}
 use lib.Dec.{T, leb, eqb, le→leb, leb→le, eqb→eq}
 use Rattle.utf8.specs.Rfc3629.{scalar}
 use Rattle.text.specs.declared.Position.{Position}
@@ -27,6 +27,19 @@ use Rattle.text.proofs.Broken.{final, next, lines-broken, lines-unlines}
 use Rattle.text.proofs.Ended.{notLF, Plain, Ended}
 
 -- ---- one row
+
+-- what stands before the column, the padding, the chunk, and what stands behind
+pub put-parts : {A : Type 0} (pad : A) (c : ℕ) (k b : List A) → put pad c k b ≡ take c b ++ (replicate (c - length b) pad ++ (k ++ drop c b))
+unfolding put
+put-parts {A} pad c k b = elim (decLe (length b) c) [ yes h ↦ short h | no h ↦ long (omega arith) ]
+  where
+    short : length b ≤ c → put pad c k b ≡ take c b ++ (replicate (c - length b) pad ++ (k ++ drop c b))
+    short h =
+        let n : length (b ++ replicate (c - length b) pad) ≤ c = omega (arith, length-append b (replicate (c - length b) pad), length-replicate (c - length b) pad) in
+        rw (take-all c (b ++ replicate (c - length b) pad) n, drop-of-length-le (b ++ replicate (c - length b) pad) n, take-all c b h, drop-of-length-le b h) (append-assoc b (replicate (c - length b) pad) (k ++ []))
+
+    long : c ≤ length b → put pad c k b ≡ take c b ++ (replicate (c - length b) pad ++ (k ++ drop c b))
+    long h = let z : c - length b ≡ 0 = omega arith in rw (z, append-nil b)
 
 module _ (c : ℕ) (k r : List ℕ) where
   abbrev padded : List ℕ

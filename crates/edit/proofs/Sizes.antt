@@ -28,11 +28,11 @@ growth c [] rs = 0
 growth c (n ∷ ns) [] = 0
 growth c (n ∷ ns) (r ∷ rs) = (c - length (r .body)) + n + growth c ns rs
 
-put-length : (c : ℕ) (k b : List ℕ) → length (put 32 c k b) ≡ length b + ((c - length b) + length k)
+pub put-length : {A : Type 0} (pad : A) (c : ℕ) (k b : List A) → length (put pad c k b) ≡ length b + ((c - length b) + length k)
 unfolding put
-put-length c k b =
-    let s = b ++ replicate (c - length b) 32 in
-    omega (arith, length-append (take c s) (k ++ drop c s), length-append k (drop c s), length-take c s, length-drop c s, length-append b (replicate (c - length b) 32), length-replicate {A = ℕ} (c - length b) 32)
+put-length {A} pad c k b =
+    let s = b ++ replicate (c - length b) pad in
+    omega (arith, length-append (take c s) (k ++ drop c s), length-append k (drop c s), length-take c s, length-drop c s, length-append b (replicate (c - length b) pad), length-replicate {A = A} (c - length b) pad)
 
 putAll-length : (c : ℕ) (ns x : List ℕ) (rs : List (Line ℕ)) → sum ns ≤ length x → length (unlines (putAll 32 c (pieces ns x) rs)) ≡ length (unlines rs) + growth c ns rs
 unfolding putAll pieces growth unlines sum
@@ -42,7 +42,7 @@ putAll-length c (n ∷ ns) x (r ∷ rs) h =
     let k = take n x in
     let b = put 32 c k (r .body) in
     let R = unlines (putAll 32 c (pieces ns (drop n x)) rs) in
-    omega (arith, putAll-length c ns (drop n x) rs (omega (arith, length-drop n x)), put-length c k (r .body), length-take n x, length-append b (r .after ++ R), length-append (r .after) R, length-append (r .body) (r .after ++ unlines rs), length-append (r .after) (unlines rs))
+    omega (arith, putAll-length c ns (drop n x) rs (omega (arith, length-drop n x)), put-length 32 c k (r .body), length-take n x, length-append b (r .after ++ R), length-append (r .after) R, length-append (r .body) (r .after ++ unlines rs), length-append (r .after) (unlines rs))
 
 pub blockInserted-length : (t : List ℕ) (p : Position) (x ns : List ℕ) → sum ns ≤ length x
     → length (blockInserted isLF isSpace spaces t p x ns .text) ≡ length t + growth (p .col .0) ns (drop (p .row .0) (lines isLF t))

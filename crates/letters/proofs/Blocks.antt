@@ -8,20 +8,22 @@ use native.Mathlib.Decide.{decLe}
 use native.Mathlib.Omega.{arith}
 use lib.Dec.{T}
 use lib.ListN.{length, take, drop, getD, replicate, length-append, length-take, length-drop, length-replicate, take-append-drop, drop-of-length-le}
-use lib.Seq.{append-snoc, length-take-le, take-all, drop-nil}
+use lib.Seq.{append-snoc, length-take-le, take-all, getD-drop}
+use Rattle.promise.proofs.Lists.{replicate-only}
 use Rattle.text.specs.declared.Position.{Position}
 use Rattle.text.specs.Rows.{Line, line, lines, unlines, at, _⊕_, rowCount, lastRow, endOf}
 use Rattle.text.proofs.Alls.{all-append, all-take, all-drop, all-replicate}
-use Rattle.text.proofs.Laws.{count-last, unlines-lines}
+use Rattle.text.proofs.Laws.{unlines-lines, rows-last}
 use Rattle.text.proofs.Holds.{Holds, holds-none, holds-append, holds-left, holds-right, holds-anywhere, holds-carried}
 use Rattle.text.proofs.Broken.{Unbroken, Broken, lines-broken, lines-unlines, first-unbroken, first-body, broken-right, broken-change, in-row, row-end}
 use Rattle.edit.specs.Edits.{Made, fromRow, put, putAll, pieces, cutAll, blockInserted, chunksDeleted}
 use Rattle.edit.specs.Refusals.{sum}
-use Rattle.edit.proofs.Blocks.{pieces-lengths}
+use Rattle.edit.proofs.Blocks.{put-parts, pieces-lengths}
+use Rattle.edit.proofs.Sizes.{put-length}
 use Rattle.after.specs.After.{afterInsertBlock, afterDeleteBlockChunks}
 use Rattle.after.proofs.Columns.{InRows, column, column-above, column-under, column-at, column-then, putIn, put-left, put-right, put-in-rows, cutOut, cut-left, cut-within, cut-right, cut-in-rows}
 use Rattle.letters.proofs.Carries.{Carries, carries-then, carries-as}
-use Rattle.letters.proofs.OneRow.{last-is, carries-still, carries-row}
+use Rattle.letters.proofs.OneRow.{carries-still, carries-row}
 
 -- ---- rows with other bodies, one for each item
 
@@ -85,7 +87,7 @@ module _ {A : Type 0} (lf : A → Bool) {Free : A → Type 0} (lfs : (x : A) →
       none m j = elim (decLe (length X) m) [ yes l ↦ column-under F (length X) [] m j (omega arith) | no l ↦ column-above F (length X) [] m j (omega arith) ]
   carries-rows (x ∷ xs) h X [] b =
       carries-still lf lfs (g (length X) (map width (x ∷ xs))) (unlines (X ++ []))
-      (λ m j l. column-above F (length X) (map width (x ∷ xs)) m j (omega (arith, last-is lf (unlines (X ++ [])) (X ++ []) (lines-unlines lf b), ap length (append-nil X))))
+      (λ m j l. column-above F (length X) (map width (x ∷ xs)) m j (omega (arith, rows-last lf (unlines (X ++ [])) (X ++ []) (lines-unlines lf b), ap length (append-nil X))))
   carries-rows (x ∷ xs) h X (y ∷ Y) b =
       let z : Line A = line (body x (y .body)) (y .after) in
       let n : ℕ = width x in
@@ -117,7 +119,7 @@ module _ {A : Type 0} (lf : A → Bool) {Free : A → Type 0} (lfs : (x : A) →
       past l =
           let z : length L ≤ r = omega arith in
           let w : t ≡ unlines (take r L ++ rebodied body xs (drop r L)) = sym (rw (drop-of-length-le L z, rebodied-none body xs, append-nil (take r L), take-all r L z) (unlines-lines lf t)) in
-          carries-as lf (λ p. refl) w (carries-still lf lfs (g r (map width xs)) t (λ m j k. column-above F r (map width xs) m j (omega (arith, last-is lf t L refl))))
+          carries-as lf (λ p. refl) w (carries-still lf lfs (g r (map width xs)) t (λ m j k. column-above F r (map width xs) m j (omega (arith, rows-last lf t L refl))))
 
 -- ---- parts of a row
 
@@ -148,23 +150,6 @@ module _ {A : Type 0} (lf : A → Bool) {Free : A → Type 0} (lfs : (x : A) →
 
 -- ---- chunks that come in
 
-put-parts : {A : Type 0} (pad : A) (c : ℕ) (k b : List A) → put pad c k b ≡ take c b ++ (replicate (c - length b) pad ++ (k ++ drop c b))
-unfolding put
-put-parts {A} pad c k b = elim (decLe (length b) c) [ yes h ↦ short h | no h ↦ long (omega arith) ]
-  where
-    short : length b ≤ c → put pad c k b ≡ take c b ++ (replicate (c - length b) pad ++ (k ++ drop c b))
-    short h =
-        let n : length (b ++ replicate (c - length b) pad) ≤ c = omega (arith, length-append b (replicate (c - length b) pad), length-replicate (c - length b) pad) in
-        rw (take-all c (b ++ replicate (c - length b) pad) n, drop-of-length-le (b ++ replicate (c - length b) pad) n, take-all c b h, drop-of-length-le b h) (append-assoc b (replicate (c - length b) pad) (k ++ []))
-
-    long : c ≤ length b → put pad c k b ≡ take c b ++ (replicate (c - length b) pad ++ (k ++ drop c b))
-    long h = let z : c - length b ≡ 0 = omega arith in rw (z, append-nil b)
-
-one-only : {A : Type 0} (P : A → Type 0) (n : ℕ) (a : A) → P a → (s : List A) (x : A) (r : List A) → replicate n a ≡ s ++ x ∷ r → P x
-one-only P zero a h s x r e = let n : zero ≡ length (s ++ x ∷ r) = ap length e in absurd (omega (arith, length-append s (x ∷ r)))
-one-only P (suc n) a h [] x r e = let k : a ≡ x = cc in subst P k h
-one-only P (suc n) a h (y ∷ s) x r e = one-only P n a h s x r (cc)
-
 module _ {A : Type 0} (lf : A → Bool) {Free : A → Type 0} (lfs : (x : A) → lf x ≡ true → Free x) (pad : A) (dull : T (not (lf pad))) (padded : Free pad) (c : ℕ) where
   -- a chunk has no LF, and its elements may stand anywhere
   pub Chunk : List A → Type 0
@@ -185,13 +170,11 @@ module _ {A : Type 0} (lf : A → Bool) {Free : A → Type 0} (lfs : (x : A) →
         (ap (at n) (omega arith)) in
         rw (put-parts pad c k b)
         (holds-append lf S (at n 0) (take c b) (P ++ (k ++ drop c b)) (front-part lf lfs R S sh carry free n b p e c (λ j l. f j ∙ ap (at n) (put-left c (length k) j l)))
-        (holds-append lf S (at n 0 ⊕ endOf lf (take c b)) P (k ++ drop c b) (holds-anywhere lf S P (λ s x r i o. free o x (one-only Free (c - length b) pad padded s x r i)) (at n 0 ⊕ endOf lf (take c b)))
+        (holds-append lf S (at n 0 ⊕ endOf lf (take c b)) P (k ++ drop c b) (holds-anywhere lf S P (λ s x r i o. free o x (replicate-only Free (c - length b) pad padded s x r i)) (at n 0 ⊕ endOf lf (take c b)))
         (rw start (holds-append lf S (at n c) k (drop c b) (holds-anywhere lf S k (λ s x r i o. free o x (h .1 s x r i)) (at n c))
         (rw (row-end lf n c k (h .0)) (back-part lf lfs R S sh carry free n b p e c (c + length k) (λ j l m. f j ∙ ap (at n) (put-right c (length k) j l ∙ omega arith))))))));
     within = λ k h b j l.
-        let n : length (put pad c k b) ≡ max c (length b) + length k =
-        ap length (put-parts pad c k b)
-        ∙ omega (arith, length-append (take c b) (replicate (c - length b) pad ++ (k ++ drop c b)), length-append (replicate (c - length b) pad) (k ++ drop c b), length-append k (drop c b), length-take c b, length-drop c b, length-replicate {A = A} (c - length b) pad) in
+        let n = put-length pad c k b in
         elim (decLe c j) [ yes m ↦ rw (put-right c (length k) j m) (omega arith) | no m ↦ rw (put-left c (length k) j (omega arith)) (omega arith) ];
   }
 
@@ -224,10 +207,6 @@ module _ {A : Type 0} (lf sp : A → Bool) {Free : A → Type 0} (lfs : (x : A) 
 
 -- ---- chunks that go, with no pads
 
-next-pad : (ds : List ℕ) (k : ℕ) → getD (drop 1 ds) k 0 ≡ getD ds (suc k) 0
-next-pad [] k = refl
-next-pad (d ∷ ds) k = refl
-
 module _ {A : Type 0} (c : ℕ) where
   abbrev cutBody : ℕ → List A → List A
   cutBody w b = take c b ++ drop (c + w) b
@@ -238,7 +217,7 @@ module _ {A : Type 0} (c : ℕ) where
   cut-all (w ∷ ws) ds z [] = refl
   cut-all (w ∷ ws) ds z (r ∷ rs) =
       let e : c - getD ds 0 0 ≡ c = (let i = z 0 (omega arith) in omega arith) in
-      rw (e, cut-all ws (drop 1 ds) (λ k l. next-pad ds k ∙ z (suc k) (omega arith)) rs)
+      rw (e, cut-all ws (drop 1 ds) (λ k l. getD-drop 1 ds k 0 ∙ ap (λ (i : ℕ). getD ds i 0) (omega arith) ∙ z (suc k) (omega arith)) rs)
 
 module _ {A : Type 0} (lf : A → Bool) {Free : A → Type 0} (lfs : (x : A) → lf x ≡ true → Free x) (c : ℕ) where
   cut-row : Rebodies lf Free (cutOut c) (λ (w : ℕ). Unit {0}) (λ w. w) (cutBody c)

@@ -12,12 +12,13 @@ use lib.Dec.{ltb}
 use lib.ListN.{length, take, drop, length-append, take-append-drop}
 use lib.Seq.{slice, take-append-seam, drop-append-seam, drop-length}
 use Rattle.promise.proofs.Bools.{known}
+use Rattle.promise.proofs.Lists.{none-in}
 use Rattle.text.specs.declared.Position.{Position}
 use Rattle.text.specs.Rows.{at, upto, earlier, _⊕_, lastRow, rowLen, rowStart, clamp, offset, endOf, spliced}
 use Rattle.text.specs.Text.{isLF}
 use Rattle.text.proofs.Laws.{end-append, end-take, offset-end}
 use Rattle.text.proofs.Order.{past-is, is-upto, row-le, upto-trans, upto-total, upto-both, earlier-first, later-second}
-use Rattle.text.proofs.Adds.{behind, past-end}
+use Rattle.text.proofs.Adds.{behind, past-end, before-end}
 use Rattle.text.proofs.Holds.{end-first, end-both}
 use Rattle.text.proofs.Spots.{clamp-place, offset-place, offset-mono, end-upto, start-mono, front-slice, cut-parts}
 use Rattle.edit.specs.Edits.{inserted, cutFrom, cutTo, charsDeleted, lineFrom, lineTo, linesDeleted, replaced}
@@ -28,14 +29,7 @@ use Rattle.after.proofs.Behind.{insert-behind, insert-there, insert-order, dele
 use Rattle.letters.proofs.Carries.{Near, near-at, Carries}
 use Rattle.letters.proofs.Splices.{Splice, past-goes, carries-splice}
 
-nothing-in : {A : Type 0} (s : List A) (x : A) (r : List A) → [] ≡ s ++ x ∷ r → ⊥
-nothing-in s x r e = let z : zero ≡ length (s ++ x ∷ r) = ap length e in omega (arith, length-append s (x ∷ r))
-
 module _ {A : Type 0} (lf : A → Bool) {Free : A → Type 0} (lfs : (x : A) → lf x ≡ true → Free x) (t : List A) where
-  -- an element of a front stands before where that ends
-  before-end : (P s : List A) (x : A) (r : List A) → P ≡ s ++ x ∷ r → upto (endOf lf P) (endOf lf s) ≡ false
-  before-end P s x r e = rw (e, end-append lf s (x ∷ r)) (past-end lf x r (endOf lf s))
-
   -- ---- insertions: of X, which x has the breaks of
 
   pub carries-insert : (q : Position) (X : List A) (x : List ℕ) → endOf isLF x ≡ endOf lf X → clamp lf t q ≡ q → ((s : List A) (y : A) (r : List A) → X ≡ s ++ y ∷ r → Free y)
@@ -47,8 +41,8 @@ module _ {A : Type 0} (lf : A → Bool) {Free : A → Type 0} (lfs : (x : A) →
       let g : (d : Position) → afterInsert (endOf lf (take o t) ⊕ endOf lf [] ⊕ d) q x ≡ endOf lf (take o t) ⊕ endOf lf X ⊕ d =
       λ d. rw (end-first lf (endOf lf (take o t)), e, ← ex) (insert-behind q x d) in
       let c : Splice lf (λ p. afterInsert p q x) (take o t) [] X (drop o t) = record {
-        ahead = λ s y r k. sym (insert-before (endOf lf s) q x (rw (← e) (before-end (take o t) s y r k)));
-        inside = λ s y r k. absurd (nothing-in s y r k);
+        ahead = λ s y r k. sym (insert-before (endOf lf s) q x (rw (← e) (before-end lf y r (take o t) s k)));
+        inside = λ s y r k. absurd (none-in s y r k);
         goes = λ s y r k. g (endOf lf s);
         outside = past-goes lf (λ p. afterInsert p q x) (take o t) [] X (drop o t) g;
       } in
@@ -79,7 +73,7 @@ module _ {A : Type 0} (lf : A → Bool) {Free : A → Type 0} (lfs : (x : A) →
     parts = cut-parts (cutFrom lf t a b) (cutTo lf t a b) t (omega arith)
 
     stays : (s : List A) (x : A) (r : List A) → P ≡ s ++ x ∷ r → upto a (endOf lf s) ≡ false
-    stays s x r k = rw (← begins) (before-end P s x r k)
+    stays s x r k = rw (← begins) (before-end lf x r P s k)
 
     -- an element that goes leaves its place for the start
     collapses : (s : List A) (x : A) (r : List A) → X ≡ s ++ x ∷ r → afterDeleteChar (endOf lf P ⊕ endOf lf s) a b ≡ a
@@ -105,7 +99,7 @@ module _ {A : Type 0} (lf : A → Bool) {Free : A → Type 0} (lfs : (x : A) →
           goes = λ s x r k. g (endOf lf s);
           outside = past-goes lf (λ p. afterDeleteChar p a b) P X [] Q g;
         } in
-        subst (λ (l : List A). Carries lf Free (λ p. afterDeleteChar p a b) l (P ++ ([] ++ Q))) parts (carries-splice lf c lfs (λ s x r k. absurd (nothing-in s x r k)) (λ p q m h. delete-order a b u p q h))
+        subst (λ (l : List A). Carries lf Free (λ p. afterDeleteChar p a b) l (P ++ ([] ++ Q))) parts (carries-splice lf c lfs (λ s x r k. absurd (none-in s x r k)) (λ p q m h. delete-order a b u p q h))
 
     pub carries-replace : (Y : List A) (y : List ℕ) → endOf isLF y ≡ endOf lf Y → ((s : List A) (x : A) (r : List A) → Y ≡ s ++ x ∷ r → Free x)
         → Carries lf Free (λ p. afterInsert (afterDeleteChar p a b) a y) t (replaced lf t a b Y .text)
@@ -144,12 +138,12 @@ module _ {A : Type 0} (lf : A → Bool) {Free : A → Type 0} (lfs : (x : A) →
         let w : take o t ++ ([] ++ []) ≡ take o t ++ ([] ++ drop (length t) t) = rw (drop-length t) in
         let v : take o t ++ (drop o t ++ []) ≡ t = rw (append-nil (drop o t)) (take-append-drop o t) in
         let c : Splice lf sh (take o t) (drop o t) [] [] = record {
-          ahead = λ r x k q. sym (lines-above (endOf lf r) lo hi (above (endOf lf r) (rw (← e) (before-end (take o t) r x k q))));
+          ahead = λ r x k q. sym (lines-above (endOf lf r) lo hi (above (endOf lf r) (rw (← e) (before-end lf x k (take o t) r q))));
           inside = λ r x k q. inr (rw (append-nil (take o t), e) (least (s ⊕ endOf lf r) (behind s (endOf lf r))));
-          goes = λ r x k q. absurd (nothing-in r x k q);
+          goes = λ r x k q. absurd (none-in r x k q);
           outside = λ p h. rw (append-nil (take o t), e) (least p (upto-trans s (endOf lf (take o t ++ (drop o t ++ []))) p (subst (λ (z : Position). upto z (endOf lf (take o t ++ (drop o t ++ []))) ≡ true) e (end-upto lf (take o t) (drop o t ++ []))) h));
         } in
-        subst (λ (l : List A). Carries lf Free sh t l) w (subst (λ (l : List A). Carries lf Free sh l (take o t ++ ([] ++ []))) v (carries-splice lf c lfs (λ r x k q. absurd (nothing-in r x k q)) (λ p q m h. lines-order lo hi u p q h)))
+        subst (λ (l : List A). Carries lf Free sh t l) w (subst (λ (l : List A). Carries lf Free sh l (take o t ++ ([] ++ []))) v (carries-splice lf c lfs (λ r x k q. absurd (none-in r x k q)) (λ p q m h. lines-order lo hi u p q h)))
       where
         least : (p : Position) → upto s p ≡ true → upto s (sh p) ≡ true
         least p h = elim (decLe lo (p .row .0)) [ yes l ↦ upto-trans s (at lo 0) (sh p) low (lines-least lo hi u p l) | no l ↦ rw (← lines-above p lo hi (omega arith)) h ]
@@ -157,7 +151,7 @@ module _ {A : Type 0} (lf : A → Bool) {Free : A → Type 0} (lfs : (x : A) →
     -- rows that others follow
     carries-between : hi < lastRow lf t → Carries lf Free sh t (spliced t (offset lf t (at lo 0)) (rowStart lf t (suc hi)) [])
     carries-between l =
-        subst (λ (z : List A). Carries lf Free sh z (take x t ++ ([] ++ drop y t))) (cut-parts x y t le) (carries-splice lf c lfs (λ s z r q. absurd (nothing-in s z r q)) (λ p q m h. lines-order lo hi u p q h))
+        subst (λ (z : List A). Carries lf Free sh z (take x t ++ ([] ++ drop y t))) (cut-parts x y t le) (carries-splice lf c lfs (λ s z r q. absurd (none-in s z r q)) (λ p q m h. lines-order lo hi u p q h))
       where
         x : ℕ
         x = offset lf t (at lo 0)
@@ -192,7 +186,7 @@ module _ {A : Type 0} (lf : A → Bool) {Free : A → Type 0} (lfs : (x : A) →
 
         c : Splice lf sh (take x t) (slice x y t) [] (drop y t)
         c = record {
-          ahead = λ s z r q. sym (lines-above (endOf lf s) lo hi (⊎-elim (λ k. omega arith) (λ k. absurd (omega arith)) (past-is (at lo 0) (endOf lf s) (subst (λ (p : Position). upto p (endOf lf s) ≡ false) begins (before-end (take x t) s z r q)))));
+          ahead = λ s z r q. sym (lines-above (endOf lf s) lo hi (⊎-elim (λ k. omega arith) (λ k. absurd (omega arith)) (past-is (at lo 0) (endOf lf s) (subst (λ (p : Position). upto p (endOf lf s) ≡ false) begins (before-end lf z r (take x t) s q)))));
           inside = λ s z r q. near-at lf (take x t) (drop y t) (sh (endOf lf (take x t) ⊕ endOf lf s)) (begins ∙ sym (collapses s z r q));
           goes = λ s z r q. g (endOf lf s);
           outside = past-goes lf sh (take x t) (slice x y t) [] (drop y t) g;

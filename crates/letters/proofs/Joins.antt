@@ -10,10 +10,11 @@ use native.Mathlib.Omega.{arith}
 use lib.Dec.{T}
 use lib.ListN.{length, take, drop, getD, length-append, take-append-drop, drop-of-length-le}
 use lib.Seq.{split-at, length-take-le, take-nil, drop-nil, getD-append-seam}
+use Rattle.promise.proofs.Lists.{none-in}
 use Rattle.text.specs.declared.Position.{Position}
 use Rattle.text.specs.Rows.{Line, line, lines, unlines, at, upto, _⊕_, rowCount, lastRow, rowLen, endOf}
 use Rattle.text.specs.Text.{isLF}
-use Rattle.text.proofs.Laws.{end-append, add-to-row, add-same, add-next, unlines-lines, count-last}
+use Rattle.text.proofs.Laws.{end-append, add-to-row, add-same, add-next, unlines-lines, rows-last, rows-len}
 use Rattle.text.proofs.Order.{is-upto, row-le, upto-trans}
 use Rattle.text.proofs.Adds.{Apart, apart, behind, order-moved}
 use Rattle.text.proofs.Holds.{end-first}
@@ -28,7 +29,6 @@ use Rattle.after.specs.After.{startCols, afterJoin}
 use Rattle.after.proofs.JoinCols.{cols-map, landed, landed-none, landed-above, landed-onto, landed-below, landed-then, joinedCols, join-landed}
 use Rattle.letters.proofs.Carries.{Near, near-at, near-within, Carries, carries-then, carries-as, carries-none}
 use Rattle.letters.proofs.Splices.{Splice, past-goes, carries-splice}
-use Rattle.letters.proofs.OneRow.{last-is, len-is}
 
 -- ---- one join onto row r, where the row below is to begin at column c
 
@@ -66,11 +66,11 @@ module _ {A : Type 0} (lf : A → Bool) {Free : A → Type 0} (lfs : (x : A) →
   gap-free r s u x v e = go b r s e
     where
       none : [] ≡ u ++ x ∷ v → Free x
-      none e = let n : zero ≡ length (u ++ x ∷ v) = ap length e in absurd (omega (arith, length-append u (x ∷ v)))
+      none e = absurd (none-in u x v e)
 
       one : (u : List A) → space ∷ [] ≡ u ++ x ∷ v → Free x
       one [] e = let k : space ≡ x = cc in subst Free k spaced
-      one (w ∷ u) e = let n : suc zero ≡ suc (length (u ++ x ∷ v)) = ap length e in absurd (omega (arith, length-append u (x ∷ v)))
+      one (w ∷ u) e = absurd (none-in u x v (cc))
 
       go : (b : Bool) (r s : List A) → gap space b r s ≡ u ++ x ∷ v → Free x
       go true (y ∷ r) (z ∷ s) e = one u e
@@ -128,15 +128,15 @@ module _ {A : Type 0} (lf : A → Bool) {Free : A → Type 0} (lfs : (x : A) →
 
     only : (s : List A) (x : A) (v : List A) → k ∷ [] ≡ s ++ x ∷ v → Near lf (P ++ (G ++ Q)) (landed r (c ∷ []) (endOf lf P ⊕ endOf lf s))
     only [] x v e = near-at lf P (G ++ Q) (landed r (c ∷ []) (endOf lf P ⊕ endOf lf [])) (sym (ap (landed r (c ∷ [])) (end-first lf (endOf lf P)) ∙ landed-above r (c ∷ []) (endOf lf P) (up-to-row P [] (sym (append-nil P)))))
-    only (w ∷ s) x v e = let n : suc zero ≡ suc (length (s ++ x ∷ v)) = ap length e in absurd (omega (arith, length-append s (x ∷ v)))
+    only (w ∷ s) x v e = absurd (none-in s x v (cc))
 
     -- a mark in the row is no further than it is long
     in-row-r : (p : Position) → Near lf (unlines (X ++ line d (k ∷ []) ∷ y ∷ Y)) p → p .row .0 ≡ r → p .col .0 ≤ c
     in-row-r p m e =
         let L : List (Line A) = X ++ line d (k ∷ []) ∷ y ∷ Y in
         let i : lines lf (unlines L) ≡ L = lines-unlines lf h in
-        let n : p .row .0 < lastRow lf (unlines L) = omega (arith, last-is lf (unlines L) L i, length-append X (line d (k ∷ []) ∷ y ∷ Y)) in
-        let w : rowLen lf (unlines L) r ≡ length d = len-is lf (unlines L) L r i ∙ ap (λ (l : Line A). length (l .body)) (getD-append-seam X (line d (k ∷ [])) (y ∷ Y) (line [] [])) in
+        let n : p .row .0 < lastRow lf (unlines L) = omega (arith, rows-last lf (unlines L) L i, length-append X (line d (k ∷ []) ∷ y ∷ Y)) in
+        let w : rowLen lf (unlines L) r ≡ length d = rows-len lf (unlines L) L i r ∙ ap (λ (l : Line A). length (l .body)) (getD-append-seam X (line d (k ∷ [])) (y ∷ Y) (line [] [])) in
         let j : p .col .0 ≤ rowLen lf (unlines L) r = subst (λ (m : ℕ). p .col .0 ≤ rowLen lf (unlines L) m) e (near-within lf (unlines L) p m n) in
         omega arith
 
@@ -194,7 +194,7 @@ module _ {A : Type 0} (v : A → ℕ) (lf sp : A → Bool) (same : (x : A) → i
       (rw (map-getD (mapLine v) L row (line [] []), map-length v (x .body)) (cols-map v b (length (x .body)) ys))
 
   many : lastRow lf t + 1 ≡ length L
-  many = last-is lf t L refl
+  many = rows-last lf t L refl
 
   -- with no row below nothing is joined
   none : lastRow lf t ≤ row → Carries lf Free (λ p. afterJoin p row count b (map v t)) t (joined lf sp made t row count b .text)

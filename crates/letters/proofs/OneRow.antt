@@ -3,44 +3,25 @@ use mathlib.Core.Path.{_≡_, refl, sym, _∙_, ap, subst}
 use mathlib.Core.Bool.{Bool, true, false}
 use mathlib.Core.Logic.{inl, inr, ⊎-elim}
 use mathlib.Core.List.{List, [], _∷_, _++_}
-use Prim.Native.Nat.{ℕ, zero, suc, _+_, _≤_, _<_}
+use Prim.Native.Nat.{ℕ, suc, _+_, _≤_}
 use native.Mathlib.Omega.{arith}
 use borrow.Author.Tests.{eqb-true, eqb-false}
 use lib.Dec.{eqb}
 use lib.ListN.{length, getD, length-append}
-use lib.Seq.{getD-append-seam}
+use lib.Seq.{getD-append-seam, getD-set-other, set-append-seam}
 use Rattle.promise.proofs.Bools.{known}
 use Rattle.text.specs.declared.Position.{Position}
 use Rattle.text.specs.Rows.{Line, line, lines, unlines, at, upto, _⊕_, rowCount, lastRow, rowLen, endOf}
-use Rattle.text.proofs.Laws.{end-append, add-origin, add-to-row, count-last}
-use Rattle.text.proofs.Order.{past-is, row-le}
-use Rattle.text.proofs.Adds.{past-end}
+use Rattle.text.proofs.Laws.{add-origin, add-to-row, rows-last, rows-len}
+use Rattle.text.proofs.Order.{past-is}
+use Rattle.text.proofs.Adds.{before-end}
 use Rattle.text.proofs.Holds.{Holds, holds-none, holds-single, holds-append, holds-left, holds-right, holds-carried}
-use Rattle.text.proofs.Spots.{end-upto}
+use Rattle.text.proofs.Spots.{end-in-rows}
 use Rattle.text.proofs.Broken.{unlines-append, Unbroken, Broken, final, next, lines-unlines, first-unbroken, first-body, broken-right, broken-change, row-next, rows-end}
 use Rattle.after.proofs.Columns.{InRows, rows-order}
 use Rattle.letters.proofs.Carries.{Within, near-within, within-near, Carries}
 
--- an element beside the one that changes
-other : {A : Type 0} (X : List A) (x y : A) (Y : List A) (d : A) (m : ℕ) → (m ≡ length X → ⊥) → getD (X ++ x ∷ Y) m d ≡ getD (X ++ y ∷ Y) m d
-other [] x y Y d zero h = absurd (h refl)
-other [] x y Y d (suc m) h = refl
-other (z ∷ X) x y Y d zero h = refl
-other (z ∷ X) x y Y d (suc m) h = other X x y Y d m (λ e. h (ap suc e))
-
 module _ {A : Type 0} (lf : A → Bool) where
-  pub last-is : (t : List A) (L : List (Line A)) → lines lf t ≡ L → lastRow lf t + 1 ≡ length L
-  unfolding rowCount
-  last-is t L e = sym (count-last lf t) ∙ ap length e
-
-  row-in : (s r : List A) → endOf lf s .row .0 ≤ lastRow lf (s ++ r)
-  unfolding endOf
-  row-in s r = row-le (endOf lf s) (endOf lf (s ++ r)) (end-upto lf s r)
-
-  pub len-is : (t : List A) (L : List (Line A)) (m : ℕ) → lines lf t ≡ L → rowLen lf t m ≡ length (getD L m (line [] []) .body)
-  unfolding rowLen
-  len-is t L m e = rw e
-
   module _ {Free : A → Type 0} (lfs : (x : A) → lf x ≡ true → Free x) {sh : Position → Position} {col : ℕ → ℕ → ℕ} (g : InRows sh col) where
     -- what stays in its column stays
     still : (p : Position) → col (p .row .0) (p .col .0) ≡ p .col .0 → sh p ≡ p
@@ -51,7 +32,7 @@ module _ {A : Type 0} (lf : A → Bool) where
     carries-still t h = record {
       letters = λ R S carry free.
           holds-carried lf R S sh carry (λ p x e. free p x (lfs x e)) (at 0 0) (at 0 0) t
-          (λ s x r i n. rw (add-origin (endOf lf s)) (still (endOf lf s) (h (endOf lf s .row .0) (endOf lf s .col .0) (rw i (row-in s (x ∷ r))))));
+          (λ s x r i n. rw (add-origin (endOf lf s)) (still (endOf lf s) (h (endOf lf s .row .0) (endOf lf s .col .0) (rw i (end-in-rows lf s (x ∷ r))))));
       marks = λ p m. within-near lf t (sh p) (rw (g .is (p .row .0) (p .col .0)) (λ l. rw (h (p .row .0) (p .col .0) (omega arith)) (near-within lf t p m l)));
       order = λ p q m u. rows-order sh col g p q u;
     }
@@ -74,8 +55,7 @@ module _ {A : Type 0} (lf : A → Bool) where
 
       above-still : (s : List A) (x : A) (k : List A) → unlines X ≡ s ++ x ∷ k → sh (endOf lf s) ≡ endOf lf s
       above-still s x k i =
-          let e : at r 0 ≡ endOf lf s ⊕ endOf lf (x ∷ k) = sym (rows-end lf X (line b a) Y h) ∙ ap (endOf lf) i ∙ end-append lf s (x ∷ k) in
-          let n : upto (at r 0) (endOf lf s) ≡ false = subst (λ (p : Position). upto p (endOf lf s) ≡ false) (sym e) (past-end lf x k (endOf lf s)) in
+          let n : upto (at r 0) (endOf lf s) ≡ false = subst (λ (p : Position). upto p (endOf lf s) ≡ false) (rows-end lf X (line b a) Y h) (before-end lf x k (unlines X) s i) in
           still (endOf lf s) (others (endOf lf s .row .0) (endOf lf s .col .0) (⊎-elim (λ l q. omega arith) (λ l q. omega arith) (past-is (at r 0) (endOf lf s) n)))
 
       below-still : (d : Position) → sh (at (suc r) 0 ⊕ d) ≡ at (suc r) 0 ⊕ d
@@ -119,12 +99,12 @@ module _ {A : Type 0} (lf : A → Bool) where
           is = lines-unlines lf broken-after
 
           same-last : lastRow lf before ≡ lastRow lf after
-          same-last = omega (arith, last-is before (X ++ line b a ∷ Y) was, last-is after (X ++ line c a ∷ Y) is, length-append X (line b a ∷ Y), length-append X (line c a ∷ Y))
+          same-last = omega (arith, rows-last lf before (X ++ line b a ∷ Y) was, rows-last lf after (X ++ line c a ∷ Y) is, length-append X (line b a ∷ Y), length-append X (line c a ∷ Y))
 
           here : p .row .0 ≡ r → p .col .0 ≤ rowLen lf before (p .row .0) → col (p .row .0) (p .col .0) ≤ rowLen lf after (p .row .0)
           here e k =
-              let x : rowLen lf before r ≡ length b = len-is before (X ++ line b a ∷ Y) r was ∙ ap (λ (l : Line A). length (l .body)) (getD-append-seam X (line b a) Y (line [] [])) in
-              let y : rowLen lf after r ≡ length c = len-is after (X ++ line c a ∷ Y) r is ∙ ap (λ (l : Line A). length (l .body)) (getD-append-seam X (line c a) Y (line [] [])) in
+              let x : rowLen lf before r ≡ length b = rows-len lf before (X ++ line b a ∷ Y) was r ∙ ap (λ (l : Line A). length (l .body)) (getD-append-seam X (line b a) Y (line [] [])) in
+              let y : rowLen lf after r ≡ length c = rows-len lf after (X ++ line c a ∷ Y) is r ∙ ap (λ (l : Line A). length (l .body)) (getD-append-seam X (line c a) Y (line [] [])) in
               let j : p .col .0 ≤ length b = rw (e, x) at k in
               rw (e, y) (within (p .col .0) j)
 
@@ -132,7 +112,7 @@ module _ {A : Type 0} (lf : A → Bool) where
           beside e k =
               let m : ℕ = p .row .0 in
               let x : rowLen lf before m ≡ rowLen lf after m =
-              len-is before (X ++ line b a ∷ Y) m was ∙ ap (λ (l : Line A). length (l .body)) (other X (line b a) (line c a) Y (line [] []) m e) ∙ sym (len-is after (X ++ line c a ∷ Y) m is) in
+              rows-len lf before (X ++ line b a ∷ Y) was m ∙ ap (λ (l : Line A). length (l .body)) (sym (getD-set-other (X ++ line b a ∷ Y) r m (line c a) (line [] []) e) ∙ ap (λ (l : List (Line A)). getD l m (line [] [])) (set-append-seam X (line b a) Y (line c a))) ∙ sym (rows-len lf after (X ++ line c a ∷ Y) is m) in
               rw (others m (p .col .0) e, ← x) k
 
       pub carries-row : ((R S : Position → A → Type 0) → ((p : Position) (x : A) → lf x ≡ false → R p x → S (sh p) x) → ((p : Position) (x : A) → Free x → S p x) → Holds lf R (at r 0) b → Holds lf S (at r 0) c)

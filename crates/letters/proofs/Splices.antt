@@ -6,6 +6,7 @@ use mathlib.Core.List.{List, [], _∷_, _++_, append-assoc, append-nil}
 use Prim.Native.Nat.{ℕ}
 use native.Mathlib.Omega.{arith}
 use lib.ListN.{length, take, drop, take-append-drop}
+use Rattle.promise.proofs.Lists.{in-either}
 use Rattle.text.specs.declared.Position.{Position}
 use Rattle.text.specs.Rows.{at, upto, _⊕_, offset, endOf}
 use Rattle.text.proofs.Laws.{end-append, end-take, add-origin, add-positions}
@@ -13,17 +14,6 @@ use Rattle.text.proofs.Order.{upto-self}
 use Rattle.text.proofs.Adds.{apart, behind}
 use Rattle.text.proofs.Holds.{Holds, holds-append, holds-left, holds-right, holds-anywhere, holds-carried, end-both}
 use Rattle.letters.proofs.Carries.{Near, near-front, Carries}
-
--- an element of two lists is in the first or in the second
-pub which : {A : Type 0} (P Q s : List A) (x : A) (r : List A) → P ++ Q ≡ s ++ x ∷ r
-    → ((m : List A) × (P ≡ s ++ x ∷ m)) ⊎ ((m : List A) × (s ≡ P ++ m) × (Q ≡ m ++ x ∷ r))
-which [] Q s x r e = inr (s, refl, e)
-which (y ∷ P) Q [] x r e = let q : y ≡ x = cc in inl (P, ap {B = _} (λ z. z ∷ P) q)
-which {A} (y ∷ P) Q (z ∷ s) x r e =
-    let q : y ≡ z = cc in
-    ⊎-elim
-    (λ h. inl (h .0, ap₂ {C = List A} (λ a l. a ∷ l) q (h .1)))
-    (λ h. inr (h .0, ap₂ {C = List A} (λ a l. a ∷ l) (sym q) (h .1), h .2)) (which P Q s x r (cc))
 
 module _ {A : Type 0} (lf : A → Bool) where
   abbrev end : List A → Position
@@ -63,7 +53,7 @@ module _ {A : Type 0} (lf : A → Bool) where
 
     -- where an element stood
     element-near : (s : List A) (x : A) (r : List A) → P ++ (X ++ Q) ≡ s ++ x ∷ r → Near lf (P ++ (Y ++ Q)) (sh (end s))
-    element-near s x r e = ⊎-elim in-front (λ h. ⊎-elim (in-part h) (in-back h) (which X Q (h .0) x r (h .2))) (which P (X ++ Q) s x r e)
+    element-near s x r e = ⊎-elim in-front (λ h. ⊎-elim (in-part h) (in-back h) (in-either X Q (h .0) x r (h .2))) (in-either P (X ++ Q) s x r e)
       where
         in-front : (m : List A) × (P ≡ s ++ x ∷ m) → Near lf (P ++ (Y ++ Q)) (sh (end s))
         in-front h =

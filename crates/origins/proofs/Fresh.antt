@@ -1,9 +1,9 @@
 -- What an edit puts in has no place in the opening text.
 use mathlib.Core.Path.{_≡_, _∙_, ap}
 use mathlib.Core.List.{List, [], _∷_, _++_}
-use Prim.Native.Nat.{ℕ, zero, suc}
+use Prim.Native.Nat.{ℕ, suc}
 use native.Mathlib.Omega.{arith}
-use lib.ListN.{length, length-append}
+use Rattle.promise.proofs.Lists.{none-in}
 use Rattle.text.specs.declared.Position.{Position}
 use Rattle.origins.specs.Origins.{opening, payload, padding, joinSpace, Traced, traced, numbered}
 
@@ -15,7 +15,7 @@ no-space k p e = let n : _≡_ {A = ℕ} 0 1 = cc in omega arith
 
 pub no-payload : (k i : ℕ) (x : List ℕ) (u : List Traced) (y : Traced) (w : List Traced) → numbered k i x ≡ u ++ y ∷ w → (p : Position) → y .origin ≡ opening p → ⊥
 unfolding numbered
-no-payload k i [] u y w e p o = let n : zero ≡ length (u ++ y ∷ w) = ap length e in omega (arith, length-append u (y ∷ w))
+no-payload k i [] u y w e p o = none-in u y w e
 no-payload k i (z ∷ x) [] y w e p o =
     let q : traced z (payload k i) ≡ y = cc in
     let r : payload k i ≡ opening p = ap (λ (c : Traced). c .origin) q ∙ o in

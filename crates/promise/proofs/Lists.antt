@@ -1,12 +1,13 @@
 -- Laws of lists that the toolchain's library lacks.
-use mathlib.Core.Path.{_≡_, _∙_}
+use mathlib.Core.Path.{_≡_, refl, sym, _∙_, ap, ap₂, subst}
+use mathlib.Core.Logic.{_⊎_, inl, inr, ⊎-elim}
 use mathlib.Core.List.{List, [], _∷_, _++_, append-nil, append-assoc}
 use Prim.Native.Nat.{ℕ, zero, suc, _+_, _-_, _≤_, _<_, min}
 use native.Mathlib.Nat.{add-zero, sub-zero, min-eq-left, min-eq-right}
 use native.Mathlib.Decide.{decLe}
 use native.Mathlib.Numerals.{add-one}
 use native.Mathlib.Omega.{arith}
-use lib.ListN.{length, take, drop, getD, set, length-append, length-take, length-drop, drop-of-length-le}
+use lib.ListN.{length, take, drop, getD, set, replicate, length-append, length-take, length-drop, drop-of-length-le}
 use lib.Seq.{drop-cons, getD-drop, take-nil, take-all, take-length, take-take, append-snoc, set-at, paste, take-at, drop-drop, drop-append-add}
 use Rattle.promise.specs.Slices.{over}
 
@@ -82,3 +83,25 @@ paste-both d x y at n e h =
 pub part-pasted : (t ys y : List ℕ) (m : ℕ) → y ≡ over ys (take (length t - m) (drop m t))
     → take m t ++ (y ++ drop (length t - m) (drop m t)) ≡ paste t m ys (length ys)
 part-pasted t ys y m e = tail-back t y m ∙ rw (e, tail-whole t m, drop-drop, take-length) (simp append-assoc)
+
+-- ---- elements of lists, by what stands before and behind them
+
+pub none-in : {A : Type 0} (s : List A) (x : A) (r : List A) → [] ≡ s ++ x ∷ r → ⊥
+none-in s x r e = let z : zero ≡ length (s ++ x ∷ r) = ap length e in omega (arith, length-append s (x ∷ r))
+
+-- an element of two lists is one of the first or one of the second
+pub in-either : {A : Type 0} (P Q s : List A) (x : A) (r : List A) → P ++ Q ≡ s ++ x ∷ r
+    → ((m : List A) × (P ≡ s ++ x ∷ m)) ⊎ ((m : List A) × (s ≡ P ++ m) × (Q ≡ m ++ x ∷ r))
+in-either [] Q s x r e = inr (s, refl, e)
+in-either {A} (y ∷ P) Q [] x r e = let q : y ≡ x = cc in inl (P, ap {B = List A} (λ z. z ∷ P) q)
+in-either {A} (y ∷ P) Q (z ∷ s) x r e =
+    let q : y ≡ z = cc in
+    ⊎-elim
+    (λ h. inl (h .0, ap₂ {C = List A} (λ a l. a ∷ l) q (h .1)))
+    (λ h. inr (h .0, ap₂ {C = List A} (λ a l. a ∷ l) (sym q) (h .1), h .2)) (in-either P Q s x r (cc))
+
+-- of one element many times over there is no other
+pub replicate-only : {A : Type 0} (P : A → Type 0) (n : ℕ) (a : A) → P a → (s : List A) (x : A) (r : List A) → replicate n a ≡ s ++ x ∷ r → P x
+replicate-only P zero a h s x r e = absurd (none-in s x r e)
+replicate-only P (suc n) a h [] x r e = let k : a ≡ x = cc in subst P k h
+replicate-only P (suc n) a h (y ∷ s) x r e = replicate-only P n a h s x r (cc)

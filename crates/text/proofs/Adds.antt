@@ -2,13 +2,13 @@
 use mathlib.Core.Path.{_≡_, refl, sym, _∙_, ap, ap₂}
 use mathlib.Core.Bool.{Bool, true, false}
 use mathlib.Core.Logic.{_⊎_, inl, inr, ⊎-elim}
-use mathlib.Core.List.{List, _∷_}
+use mathlib.Core.List.{List, _∷_, _++_}
 use Prim.Native.Nat.{ℕ, zero, suc, _+_, _-_, _<_}
 use native.Mathlib.Omega.{arith}
 use Rattle.promise.proofs.Bools.{unless}
 use Rattle.text.specs.declared.Position.{Position}
 use Rattle.text.specs.Rows.{at, upto, _⊕_, endOf}
-use Rattle.text.proofs.Laws.{add-same, add-next, add-to-row, end-lf, end-other}
+use Rattle.text.proofs.Laws.{add-same, add-next, add-to-row, end-lf, end-other, end-append}
 use Rattle.text.proofs.Order.{upto-is, is-upto}
 
 upto-added : (a b r c : ℕ) → upto (at a b) (at a b ⊕ at r c) ≡ true
@@ -45,6 +45,10 @@ module _ {A : Type 0} (lf : A → Bool) (x : A) (t : List A) where
   -- a text that is not empty ends past where it begins
   pub past-end : (p : Position) → upto (p ⊕ endOf lf (x ∷ t)) p ≡ false
   past-end p = past-added (p .row .0) (p .col .0) (endOf lf (x ∷ t) .row .0) (endOf lf (x ∷ t) .col .0) some-end
+
+  -- and an element stands before its text ends
+  pub before-end : (u s : List A) → u ≡ s ++ x ∷ t → upto (endOf lf u) (endOf lf s) ≡ false
+  before-end u s e = rw (e, end-append lf s (x ∷ t)) (past-end (endOf lf s))
 
 -- ---- what stands behind a place stands so far behind it
 

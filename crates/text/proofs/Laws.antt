@@ -4,7 +4,7 @@ use mathlib.Core.Bool.{Bool, true, false, cond}
 use mathlib.Core.List.{List, [], _∷_, _++_}
 use Prim.Native.Nat.{ℕ, zero, suc, _≤_, _+_, _-_, _<_, min}
 use native.Mathlib.Omega.{arith}
-use lib.ListN.{length, take, drop}
+use lib.ListN.{length, take, drop, getD}
 use Rattle.text.specs.Rows.{Line, line, onto, lines, unlines, rowCount, rowLen, rowStart, lastRow, clamp, offset, endOf, at, _⊕_}
 use native.Mathlib.Nat.{add-zero, zero-add, add-assoc, sub-zero, suc-sub-suc}
 use borrow.Author.Tests.{ne-eqb}
@@ -394,3 +394,13 @@ module _ {A : Type 0} (lf : A → Bool) where
   pub count-last : (t : List A) → rowCount lf t ≡ lastRow lf t + 1
   unfolding lastRow
   count-last t = let h = count-pos lf t in omega arith
+
+  -- the last row and a row's length, from the rows
+  module _ (t : List A) (L : List (Line A)) (e : lines lf t ≡ L) where
+    pub rows-last : lastRow lf t + 1 ≡ length L
+    unfolding rowCount
+    rows-last = sym (count-last t) ∙ ap length e
+
+    pub rows-len : (r : ℕ) → rowLen lf t r ≡ length (getD L r (line [] []) .body)
+    unfolding rowLen
+    rows-len r = rw e

@@ -14,7 +14,7 @@ use Rattle.text.specs.declared.Place.{Place}
 use Rattle.text.specs.Text.{isLF}
 use Rattle.text.specs.Rows.{Line, lines, unlines, at, upto, _⊕_, lastRow, rowLen, rowStart, clamp, offset, place, endOf}
 use Rattle.text.proofs.Adds.{behind}
-use Rattle.text.proofs.Order.{upto-both}
+use Rattle.text.proofs.Order.{row-le, upto-both}
 use Rattle.text.proofs.Laws.{start-lf, start-other, start-first, start-none, len-lf, len-lf-next, len-other, len-other-next, len-none, len-le, last-none, last-lf, last-other, last-le, end-append, end-take}
 
 pub front-slice : {A : Type 0} (a b : ℕ) (t : List A) → a ≤ b → take a t ++ slice a b t ≡ take b t
@@ -102,6 +102,10 @@ module _ {A : Type 0} (lf : A → Bool) where
   -- a text ends no later than a longer one
   pub end-upto : (s u : List A) → upto (endOf lf s) (endOf lf (s ++ u)) ≡ true
   end-upto s u = rw (end-append lf s u) (behind (endOf lf s) (endOf lf u))
+
+  pub end-in-rows : (s u : List A) → endOf lf s .row .0 ≤ lastRow lf (s ++ u)
+  unfolding endOf
+  end-in-rows s u = row-le (endOf lf s) (endOf lf (s ++ u)) (end-upto s u)
 
   -- positions of the text are in the order of their offsets
   pub offset-order : (t : List A) (a b : Position) → clamp lf t a ≡ a → clamp lf t b ≡ b → offset lf t a ≤ offset lf t b → upto a b ≡ true
