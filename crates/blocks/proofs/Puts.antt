@@ -1,14 +1,14 @@
 -- One chunk of a block put in, and then the others.
 use mathlib.Core.Path.{_≡_, _∙_}
 use mathlib.Core.List.{List, _∷_, _++_, append-assoc, append-nil}
-use Prim.Native.Nat.{ℕ, zero, suc, _+_, _-_, _≤_, _<_, min}
+use Prim.Native.Nat.{ℕ, suc, _+_, _-_, _≤_, _<_, min}
 use native.Mathlib.Nat.{sub-eq-zero-of-le, min-eq-left, min-eq-right}
 use native.Mathlib.Decide.{decLe}
 use native.Mathlib.Omega.{arith}
 use lib.ListN.{length, take, drop, getD, replicate, length-append, length-replicate, drop-of-length-le}
 use lib.Seq.{take-all, take-length, drop-length}
 use Rattle.text.specs.Rows.{Line, line, lines, charAt, at, rowCount, lastRow, rowLen, rowStart, rowEnd, offset, spliced}
-use Rattle.text.specs.Text.{isLF, all}
+use Rattle.text.specs.Text.{isLF}
 use Rattle.promise.proofs.Lists.{next}
 use Rattle.text.proofs.Alls.{all-append, all-replicate}
 use Rattle.text.proofs.Ended.{notLF, Plain}

@@ -12,7 +12,6 @@ use Rattle.edit.specs.Edits.{inserted, charsDeleted, lineFrom, lineTo, l
 use Rattle.edit.specs.Refusals.{sum, smallRange, smallOk, fewRows, fewOk, payloadOk, withinFirst, withinAll, withinOk, roomOk, recordOk, wide}
 use Rattle.edit.specs.declared.Applied.{Applied}
 use Rattle.edit.specs.Call.{firstOf, resultOf, appliedAs, leaves, applied, rangeUndoable, isUndoable, undoable}
-use Rattle.edit.specs.Runs.{Run, stop, step, edits, stages}
 use Rattle.edit.specs.Demand3.{State, text, Beside, viewAt, lentAt, called, Undoable}
 use Rattle.edit.specs.Examples.{opened, FurtherExamples, FirstRefusals, RuledOut, RoomFilled, sampleEdits, sampleTexts, sampleBesides, besides, SampleRun}
 use Rattle.edit.proofs.Accepted.{doing}

@@ -4,13 +4,14 @@ use mathlib.Core.List.{List, [], _∷_, _++_, map, flatten}
 use mathlib.Core.Bool.{Bool, true, false, cond}
 use Prim.Native.Nat.{ℕ, zero, suc, _+_, _-_, min, max}
 use lib.ListN.{length, take, drop, getD, replicate}
+use Rattle.promise.proofs.Lists.{Every}
 use Rattle.text.specs.declared.Position.{Position}
 use Rattle.text.specs.Rows.{Line, line, lines, earlier, later, lastRow, offset, endOf, spliced}
 use Rattle.edit.specs.declared.MotionKind.{MotionKind}
 use Rattle.edit.specs.declared.MotionKind.the-variants.{Char, Line as Lines, Block}
 use Rattle.edit.specs.declared.Edit.{Edit}
 use Rattle.edit.specs.declared.Edit.the-variants.{InsertChar, InsertStr, DeleteRange, JoinLines, SplitLines, Replace, InsertBlock, DeleteBlockChunks}
-use Rattle.edit.specs.Edits.{Made, inserted, cutFrom, cutTo, charsDeleted, lineFrom, lineTo, linesDeleted, replaced, fromRow, gap, joinNext, joinRow, joinCols, joinFlags, put, putAll, padsOf, pieces, cutAll, chunksOf, joined, unspace, splitFirst, splitRow, split, blockInserted, chunksDeleted, corner, height, breadth, rangeDeleted, editedBy}
+use Rattle.edit.specs.Edits.{Made, Edited, inserted, cutFrom, cutTo, charsDeleted, lineFrom, lineTo, linesDeleted, replaced, fromRow, gap, joinNext, joinRow, joinCols, joinFlags, put, putAll, padsOf, pieces, cutAll, chunksOf, joined, unspace, splitFirst, splitRow, split, blockInserted, chunksDeleted, corner, height, breadth, rangeDeleted, editedBy}
 use Rattle.edit.specs.Theorems.{mapMade, mapEdited, Natural}
 use Rattle.edit.proofs.Maps.{map-append, map-take, map-drop, map-replicate, map-length, map-getD, mapLine, map-slice, map-spliced, map-unlines, map-lines, map-last, map-len, map-start, map-clamp, map-offset, map-end}
 
@@ -222,3 +223,30 @@ module _ {A B : Type 0} (f : A → B) (lf sp : A → Bool) (lf′ sp′ : B → 
 
 pub natural : Natural
 natural A B f lf sp lf′ sp′ h k made e x g s t = map-edited f lf sp lf′ sp′ h k made e x g s t
+
+-- ---- so an edit has no elements but those that it was given: what every one of them has, every one of its text has
+
+module _ {A : Type 0} (P : A → Type 0) where
+  abbrev Having : Type 0
+  Having = (x : A) × P x
+
+  having : (t : List A) → Every P t → (u : List Having) × (map (λ (x : Having). x .0) u ≡ t)
+  unfolding Every
+  having [] h = ([], refl)
+  having (x ∷ t) h = let r = having t (h .1) in ((x, h .0) ∷ r .0, ap (_∷_ x) (r .1))
+
+  every-having : (u : List Having) → Every P (map (λ (x : Having). x .0) u)
+  unfolding Every
+  every-having [] = tt
+  every-having (x ∷ u) = (x .1, every-having u)
+
+  pub every-edited : (lf sp : A → Bool) (made : Made A) → P (made .pad) → P (made .space) → P (made .break) → (e : Edit) (x : List A) (g s : List ℕ) (t : List A)
+      → Every P x → Every P t → Every P (editedBy lf sp made e x g s t .text)
+  every-edited lf sp made p q r e x g s t hx ht =
+      let y = having x hx in
+      let u = having t ht in
+      let m : Made Having = record { pad = (made .pad, p); space = (made .space, q); break = (made .break, r) } in
+      let n = natural Having A (λ c. c .0) (λ c. lf (c .0)) (λ c. sp (c .0)) lf sp (λ c. refl) (λ c. refl) m e (y .0) g s (u .0) in
+      let w : editedBy lf sp made e x g s t .text ≡ map (λ (c : Having). c .0) (editedBy (λ c. lf (c .0)) (λ c. sp (c .0)) m e (y .0) g s (u .0) .text) =
+      sym (ap₂ (λ (a b : List A). editedBy lf sp made e a g s b .text) (y .1) (u .1)) ∙ ap (λ (d : Edited A). d .text) n in
+      rw w (every-having (editedBy (λ c. lf (c .0)) (λ c. sp (c .0)) m e (y .0) g s (u .0) .text))

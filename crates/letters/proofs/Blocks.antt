@@ -2,16 +2,16 @@
 use mathlib.Core.Path.{_≡_, refl, sym, _∙_, ap, subst}
 use mathlib.Core.Bool.{Bool, true, false, not}
 use mathlib.Core.List.{List, [], _∷_, _++_, append-assoc, append-nil, map, map-id}
-use Prim.Native.Nat.{ℕ, zero, suc, _+_, _-_, _≤_, _<_, max}
+use Prim.Native.Nat.{ℕ, suc, _+_, _-_, _≤_, _<_}
 use native.Mathlib.Nat.{add-zero, zero-add}
 use native.Mathlib.Decide.{decLe}
 use native.Mathlib.Omega.{arith}
 use lib.Dec.{T}
 use lib.ListN.{length, take, drop, getD, replicate, length-append, length-take, length-drop, length-replicate, take-append-drop, drop-of-length-le}
 use lib.Seq.{append-snoc, length-take-le, take-all, getD-drop}
-use Rattle.promise.proofs.Lists.{replicate-only}
+use Rattle.promise.proofs.Lists.{replicate-only, Every}
 use Rattle.text.specs.declared.Position.{Position}
-use Rattle.text.specs.Rows.{Line, line, lines, unlines, at, _⊕_, rowCount, lastRow, endOf}
+use Rattle.text.specs.Rows.{Line, line, lines, unlines, at, _⊕_, endOf}
 use Rattle.text.proofs.Alls.{all-append, all-take, all-drop, all-replicate}
 use Rattle.text.proofs.Laws.{unlines-lines, rows-last}
 use Rattle.text.proofs.Holds.{Holds, holds-none, holds-append, holds-left, holds-right, holds-anywhere, holds-carried}
@@ -37,10 +37,6 @@ module _ {A I : Type 0} (body : I → List A → List A) where
   unfolding rebodied
   rebodied-none [] = refl
   rebodied-none (x ∷ xs) = refl
-
-unfoldable All : {I : Type 0} → (I → Type 0) → List I → Type 0
-All P [] = Unit {0}
-All P (x ∷ xs) = P x × All P xs
 
 -- what is asked of one row: the body that item x gives it, and where F w j puts column j of it
 record Rebodies {A : Type 0} (lf : A → Bool) (Free : A → Type 0) (F : ℕ → ℕ → ℕ) {I : Type 0} (Good : I → Type 0) (width : I → ℕ) (body : I → List A → List A) : Type 1 where
@@ -79,8 +75,8 @@ module _ {A : Type 0} (lf : A → Bool) {Free : A → Type 0} (lfs : (x : A) →
       others : (m j : ℕ) → (m ≡ r → ⊥) → column F r (width x ∷ []) m j ≡ j
       others m j n = elim (decLe r m) [ yes l ↦ column-under F r (width x ∷ []) m j (omega arith) | no l ↦ column-above F r (width x ∷ []) m j (omega arith) ]
 
-  carries-rows : (xs : List I) → All Good xs → (X Y : List (Line A)) → Broken lf (X ++ Y) → Carries lf Free (sh (length X) (map width xs)) (unlines (X ++ Y)) (unlines (X ++ rebodied body xs Y))
-  unfolding All rebodied
+  carries-rows : (xs : List I) → Every Good xs → (X Y : List (Line A)) → Broken lf (X ++ Y) → Carries lf Free (sh (length X) (map width xs)) (unlines (X ++ Y)) (unlines (X ++ rebodied body xs Y))
+  unfolding Every rebodied
   carries-rows [] h X Y b = carries-still lf lfs (g (length X) []) (unlines (X ++ Y)) (λ m j l. none m j)
     where
       none : (m j : ℕ) → column F (length X) [] m j ≡ j
@@ -99,7 +95,7 @@ module _ {A : Type 0} (lf : A → Bool) {Free : A → Type 0} (lfs : (x : A) →
       carries-as lf (then-sh (length X) n (map width xs)) refl (carries-then lf (one-row x (h .0) X y Y b) rest)
 
   -- in a text, from row r on
-  carries-from : (t : List A) (r : ℕ) (xs : List I) → All Good xs → Carries lf Free (sh r (map width xs)) t (fromRow (lines lf t) r (rebodied body xs (drop r (lines lf t))))
+  carries-from : (t : List A) (r : ℕ) (xs : List I) → Every Good xs → Carries lf Free (sh r (map width xs)) t (fromRow (lines lf t) r (rebodied body xs (drop r (lines lf t))))
   carries-from t r xs h = elim (decLe r (length (lines lf t))) [ yes l ↦ within-text l | no l ↦ past (omega arith) ]
     where
       L : List (Line A)
@@ -185,8 +181,8 @@ module _ {A : Type 0} (lf : A → Bool) {Free : A → Type 0} (lfs : (x : A) →
   put-all (k ∷ ks) (r ∷ rs) = ap (_∷_ (line (put pad c k (r .body)) (r .after))) (put-all ks rs)
 
   -- the payload's pieces are such chunks
-  chunks : (ns : List ℕ) (X : List A) → Unbroken lf X → ((s : List A) (x : A) (r : List A) → X ≡ s ++ x ∷ r → Free x) → All Chunk (pieces ns X)
-  unfolding All Chunk pieces
+  chunks : (ns : List ℕ) (X : List A) → Unbroken lf X → ((s : List A) (x : A) (r : List A) → X ≡ s ++ x ∷ r → Free x) → Every Chunk (pieces ns X)
+  unfolding Every Chunk pieces
   chunks [] X p fresh = tt
   chunks (n ∷ ns) X p fresh = (
     (all-take (λ x. not (lf x)) n X p, λ s x r i. fresh s x (r ++ drop n X) (sym (take-append-drop n X) ∙ ap (λ (l : List A). l ++ drop n X) i ∙ append-assoc s (x ∷ r) (drop n X))),
@@ -241,8 +237,8 @@ module _ {A : Type 0} (lf : A → Bool) {Free : A → Type 0} (lfs : (x : A) →
         ];
   }
 
-all-plain : (ws : List ℕ) → All (λ (w : ℕ). Unit {0}) ws
-unfolding All
+all-plain : (ws : List ℕ) → Every (λ (w : ℕ). Unit {0}) ws
+unfolding Every
 all-plain [] = tt
 all-plain (w ∷ ws) = (tt, all-plain ws)
 

@@ -1,18 +1,17 @@
 -- The statements of calls.
 use mathlib.Core.Path.{_≡_, refl, sym, _∙_, ap, subst}
-use mathlib.Core.Bool.{true, false}
+use mathlib.Core.Bool.{true}
 use mathlib.Core.Logic.{inl}
-use mathlib.Core.List.{List, [], _∷_, _++_, map}
+use mathlib.Core.List.{List, _∷_, _++_, map}
 use Prim.Native.Nat.{ℕ, suc, _≤_}
 use native.Mathlib.Omega.{arith}
 use borrow.Author.Tests.{le-leb}
-use lib.Dec.{T}
-use lib.ListN.{length, take, length-append}
+use lib.ListN.{length, length-append}
 use lib.Seq.{length-take-le}
 use Rattle.promise.specs.Paper.{done}
 use Rattle.promise.proofs.Bools.{T-true, both-true}
 use Rattle.text.specs.declared.Position.{Position}
-use Rattle.text.specs.Rows.{at, upto, _⊕_, endOf}
+use Rattle.text.specs.Rows.{at, upto, endOf}
 use Rattle.text.specs.Text.{textOk}
 use Rattle.text.proofs.Laws.{add-origin}
 use Rattle.text.proofs.Spots.{end-row, end-col}
@@ -40,8 +39,8 @@ use Rattle.origins.specs.Theorems.{editedText, textRun}
 use Rattle.origins.proofs.Values.{opened-value, traced-value}
 use Rattle.origins.proofs.Theorems.{origins-keep-text}
 use Rattle.letters.specs.Keeps.{Keeps, KeepsWhole}
-use Rattle.letters.specs.Theorems.{Letter, Markable}
-use Rattle.letters.specs.Calls.{LettersStayCall, ShiftCall, ShiftCallsExist, KeepingCall, FollowedTo, LettersFollowed, CodeLettersStay, NeverPass, CodeMarksMeet}
+use Rattle.letters.specs.Theorems.{Markable}
+use Rattle.letters.specs.Calls.{LettersStayCall, ShiftCall, ShiftCallsExist, KeepingCall, FollowedTo, CodeLettersStay, NeverPass, CodeMarksMeet}
 use Rattle.letters.proofs.Theorems.{Known, opened-known, step-known, marks-meet}
 
 -- ---- calls of `shift_position`

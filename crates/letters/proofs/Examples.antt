@@ -1,11 +1,10 @@
 -- The examples and the sample run, computed; its calls are made as their promises have them.
 use mathlib.Core.Path.{_≡_, refl, sym, _∙_, ap, subst}
-use mathlib.Core.List.{List, [], _∷_, _++_, map, flatten}
+use mathlib.Core.List.{List, [], _∷_, map, flatten}
 use Prim.Native.Nat.{ℕ}
 use native.Mathlib.Omega.{arith}
 use Rattle.promise.specs.Paper.{done}
 use Rattle.utf8.specs.Rfc3629.{scalar}
-use Rattle.text.specs.declared.Position.{Position}
 use Rattle.text.specs.Rows.{at, _⊕_, onto, lines, unlines, rowCount, lastRow, rowLen, rowStart, clamp, offset, endOf}
 use Rattle.text.specs.Text.{admissible, all, textOk, renewed}
 use Rattle.edit.specs.declared.Applied.{Applied}

@@ -1,7 +1,7 @@
 -- Joins, one after another: what stands below an LF that goes moves up onto the row before it.
 use mathlib.Core.Path.{_≡_, refl, sym, _∙_, ap, subst}
 use mathlib.Core.Bool.{Bool, true, false, not}
-use mathlib.Core.Logic.{inl, inr, ⊎-elim}
+use mathlib.Core.Logic.{inl, inr}
 use mathlib.Core.List.{List, [], _∷_, _++_, append-assoc, append-nil, map}
 use Prim.Native.Nat.{ℕ, zero, suc, _+_, _-_, _≤_, _<_, min, max}
 use native.Mathlib.Nat.{zero-add}
@@ -12,19 +12,19 @@ use lib.ListN.{length, take, drop, getD, length-append, take-append-drop, drop-o
 use lib.Seq.{split-at, length-take-le, take-nil, drop-nil, getD-append-seam}
 use Rattle.promise.proofs.Lists.{none-in}
 use Rattle.text.specs.declared.Position.{Position}
-use Rattle.text.specs.Rows.{Line, line, lines, unlines, at, upto, _⊕_, rowCount, lastRow, rowLen, endOf}
+use Rattle.text.specs.Rows.{Line, line, lines, unlines, at, upto, _⊕_, lastRow, rowLen, endOf}
 use Rattle.text.specs.Text.{isLF}
 use Rattle.text.proofs.Laws.{end-append, add-to-row, add-same, add-next, unlines-lines, rows-last, rows-len}
 use Rattle.text.proofs.Order.{is-upto, row-le, upto-trans}
 use Rattle.text.proofs.Adds.{Apart, apart, behind, order-moved}
 use Rattle.text.proofs.Holds.{end-first}
 use Rattle.text.proofs.Spots.{end-upto}
-use Rattle.text.proofs.Broken.{unlines-append, Unbroken, Broken, next, lines-broken, lines-unlines, first-unbroken, broken-right, broken-change, row-end, row-next, rows-end}
+use Rattle.text.proofs.Broken.{unlines-append, Unbroken, Broken, next, lines-broken, lines-unlines, broken-right, broken-change, row-end, row-next, rows-end}
 use Rattle.joins.specs.Turns.{gapLen}
 use Rattle.joins.proofs.JoinRows.{gap-length}
 use Rattle.edit.specs.Edits.{Made, gap, joinNext, joinRow, joined}
 use Rattle.edit.proofs.Joins.{gap-all, next-broken}
-use Rattle.edit.proofs.Maps.{mapLine, map-length, map-take, map-drop, map-lines, map-len, map-last, map-getD}
+use Rattle.edit.proofs.Maps.{mapLine, map-length, map-take, map-drop, map-lines, map-getD}
 use Rattle.after.specs.After.{startCols, afterJoin}
 use Rattle.after.proofs.JoinCols.{cols-map, landed, landed-none, landed-above, landed-onto, landed-below, landed-then, joinedCols, join-landed}
 use Rattle.letters.proofs.Carries.{Near, near-at, near-within, Carries, carries-then, carries-as, carries-none}

@@ -1,7 +1,7 @@
 -- One row of a text with another body, and a shift that moves in rows and leaves all other rows.
-use mathlib.Core.Path.{_≡_, refl, sym, _∙_, ap, subst}
+use mathlib.Core.Path.{_≡_, sym, _∙_, ap, subst}
 use mathlib.Core.Bool.{Bool, true, false}
-use mathlib.Core.Logic.{inl, inr, ⊎-elim}
+use mathlib.Core.Logic.{⊎-elim}
 use mathlib.Core.List.{List, [], _∷_, _++_}
 use Prim.Native.Nat.{ℕ, suc, _+_, _≤_}
 use native.Mathlib.Omega.{arith}
@@ -11,13 +11,13 @@ use lib.ListN.{length, getD, length-append}
 use lib.Seq.{getD-append-seam, getD-set-other, set-append-seam}
 use Rattle.promise.proofs.Bools.{known}
 use Rattle.text.specs.declared.Position.{Position}
-use Rattle.text.specs.Rows.{Line, line, lines, unlines, at, upto, _⊕_, rowCount, lastRow, rowLen, endOf}
+use Rattle.text.specs.Rows.{Line, line, lines, unlines, at, upto, _⊕_, lastRow, rowLen, endOf}
 use Rattle.text.proofs.Laws.{add-origin, add-to-row, rows-last, rows-len}
 use Rattle.text.proofs.Order.{past-is}
 use Rattle.text.proofs.Adds.{before-end}
 use Rattle.text.proofs.Holds.{Holds, holds-none, holds-single, holds-append, holds-left, holds-right, holds-carried}
 use Rattle.text.proofs.Spots.{end-in-rows}
-use Rattle.text.proofs.Broken.{unlines-append, Unbroken, Broken, final, next, lines-unlines, first-unbroken, first-body, broken-right, broken-change, row-next, rows-end}
+use Rattle.text.proofs.Broken.{unlines-append, Unbroken, Broken, final, next, lines-unlines, first-body, broken-right, broken-change, row-next, rows-end}
 use Rattle.after.proofs.Columns.{InRows, rows-order}
 use Rattle.letters.proofs.Carries.{Within, near-within, within-near, Carries}
 

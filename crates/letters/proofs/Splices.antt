@@ -1,11 +1,10 @@
 -- One part of a text exchanged for another, and a shift that leaves what is before it and takes what is behind it along.
-use mathlib.Core.Path.{_≡_, refl, sym, _∙_, ap, ap₂, subst}
+use mathlib.Core.Path.{_≡_, refl, sym, _∙_, ap, subst}
 use mathlib.Core.Bool.{Bool, true, false}
-use mathlib.Core.Logic.{_⊎_, inl, inr, ⊎-elim}
+use mathlib.Core.Logic.{inr, ⊎-elim}
 use mathlib.Core.List.{List, [], _∷_, _++_, append-assoc, append-nil}
 use Prim.Native.Nat.{ℕ}
-use native.Mathlib.Omega.{arith}
-use lib.ListN.{length, take, drop, take-append-drop}
+use lib.ListN.{take, drop, take-append-drop}
 use Rattle.promise.proofs.Lists.{in-either}
 use Rattle.text.specs.declared.Position.{Position}
 use Rattle.text.specs.Rows.{at, upto, _⊕_, offset, endOf}

@@ -2,7 +2,7 @@
 use mathlib.Core.Path.{_≡_, refl, sym, _∙_, ap, subst}
 use mathlib.Core.Bool.{true, false}
 use mathlib.Core.Logic.{_⊎_, inl, inr, ⊎-elim}
-use mathlib.Core.List.{List, [], _∷_, _++_, map, map-id}
+use mathlib.Core.List.{List, [], _∷_, map, map-id}
 use Prim.Native.Nat.{ℕ, suc}
 use Rattle.promise.proofs.Bools.{clash}
 use Rattle.text.specs.declared.Position.{Position}
@@ -15,12 +15,12 @@ use Rattle.edit.specs.Refusals.{spaces, payloadOk}
 use Rattle.edit.proofs.Maps.{map-end}
 use Rattle.shift.specs.Answers.{Followed, to}
 use Rattle.shift.specs.Kinds.{shifted}
-use Rattle.origins.specs.Origins.{Traced, traced, opening, padding, joinSpace, value, lfAt, openedAt, opened, numbered, madeBy, tracedBy, tracedRun}
+use Rattle.origins.specs.Origins.{Traced, traced, opening, value, lfAt, openedAt, opened, numbered, madeBy, tracedBy, tracedRun}
 use Rattle.origins.specs.Theorems.{editedText}
 use Rattle.origins.proofs.Values.{opened-value, numbered-value, traced-value}
 use Rattle.origins.proofs.Fresh.{no-padding, no-space, no-payload}
 use Rattle.letters.specs.Keeps.{Keeps, KeepsWhole, KeepsRun, thenShifted, shiftedOver}
-use Rattle.letters.specs.Theorems.{LettersStayRun, Markable, Landed, MarksMeet, LandedRun, MarksMeetRun}
+use Rattle.letters.specs.Theorems.{LettersStayRun, Markable, MarksMeet, LandedRun, MarksMeetRun}
 use Rattle.letters.proofs.Goings.{Goes, goes}
 
 -- ---- letters

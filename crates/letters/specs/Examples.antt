@@ -16,7 +16,7 @@ use Rattle.edit.specs.Examples.{plain}
 use Rattle.edit.specs.Examples as edit
 use Rattle.shift.specs.Answers.{Followed, to, dropped}
 use Rattle.shift.specs.Kinds.{shifted}
-use Rattle.origins.specs.Origins.{Origin, opening, payload, Traced, lfAt, opened, tracedBy, tracedRun}
+use Rattle.origins.specs.Origins.{opening, payload, Traced, lfAt, opened, tracedBy, tracedRun}
 use Rattle.origins.specs.Theorems.{editedText}
 use Rattle.letters.specs.Keeps.{KeepsRun, shiftedOver}
 use Rattle.letters.specs.Calls.{KeepingCall, FollowedTo, NeverPass}

@@ -5,8 +5,7 @@ use mathlib.Core.Path.{_≡_}
 use Prim.Native.Nat.{ℕ, _≤_, _<_}
 use lib.ListN.{length, getD}
 use Rattle.text.specs.declared.Position.{Position}
-use Rattle.text.specs.Rows.{upto, lastRow}
-use Rattle.text.specs.Text.{isLF}
+use Rattle.text.specs.Rows.{upto}
 use Rattle.edit.specs.declared.MotionKind.{MotionKind}
 use Rattle.edit.specs.declared.MotionKind.the-variants.{Char, Line as Lines, Block}
 use Rattle.edit.specs.declared.Edit.{Edit}

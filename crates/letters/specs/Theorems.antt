@@ -17,7 +17,7 @@ use Rattle.letters.specs.Keeps.{KeepsWhole, KeepsRun, shiftedOver}
 
 -- ---- letters
 
--- c is a letter of the text t, "other than LF", that stood at p when the run began; what stands before it ends where it stands now
+-- c is a letter of the text t, "other than LF", that stood at p when the run began (`OriginsStood` of `origins`); what stands before it ends where it stands now
 pub record Letter (t before behind : List Traced) (c : Traced) (p : Position) : Type 0 where
   pub stands : t ≡ before ++ c ∷ behind
   pub from : c .origin ≡ opening p

@@ -1,4 +1,5 @@
 pub mod Values
 pub mod Fresh
+pub mod Stood
 pub mod Theorems
 pub mod Examples

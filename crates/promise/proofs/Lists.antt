@@ -105,3 +105,14 @@ pub replicate-only : {A : Type 0} (P : A → Type 0) (n : ℕ) (a : A) → P a �
 replicate-only P zero a h s x r e = absurd (none-in s x r e)
 replicate-only P (suc n) a h [] x r e = let k : a ≡ x = cc in subst P k h
 replicate-only P (suc n) a h (y ∷ s) x r e = replicate-only P n a h s x r (cc)
+
+-- ---- what every element has
+
+unfoldable pub Every : {A : Type 0} → (A → Type 0) → List A → Type 0
+Every P [] = Unit {0}
+Every P (x ∷ xs) = P x × Every P xs
+
+pub every-one : {A : Type 0} (P : A → Type 0) (s : List A) (x : A) (r : List A) → Every P (s ++ x ∷ r) → P x
+unfolding Every
+every-one P [] x r h = h .0
+every-one P (y ∷ s) x r h = every-one P s x r (h .1)
