@@ -384,10 +384,10 @@ winchbarn_place winchbarn_clamp_position(const uint32_t *text, size_t text_len, 
 winchbarn_place winchbarn_box_fit(const uint32_t *text, size_t text_len, size_t used, uint32_t cells, uint32_t tab);
 
 /* Where a position goes when the edit is made to the view's text; the pads of DELETE_BLOCK_CHUNKS are left out of account. None for
- * SPLIT_LINES, over which nothing is followed, and for no other kind. Over an accepted edit whose places are in the text, other than
- * SPLIT_LINES and DELETE_BLOCK_CHUNKS with a pad above 0, the position of a character that stays, not a line feed, is where it stands afterwards;
- * blocks, joins and deletes of rows may name any place (docs/PROMISES.md, `letters`). Nothing lent is written. Refuses by 10 where the kind is
- * none, then 1, 2, 3, 4, 6. */
+ * SPLIT_LINES, over which nothing is followed, and for no other kind. Over an accepted edit whose ends are in order and whose places are in
+ * the text, other than SPLIT_LINES and DELETE_BLOCK_CHUNKS with a pad above 0, what is answered for the place of a character that stays, not
+ * a line feed, is where it stands afterwards; blocks, joins and deletes of rows may name any place. Nothing lent is written. Refuses by 10
+ * where the kind is none, then 1, 2, 3, 4, 6. */
 winchbarn_place winchbarn_shift_position(const uint32_t *text, size_t text_len, winchbarn_view view, winchbarn_edit edit,
                                          const uint32_t *payload, size_t payload_len, const uint32_t *first, size_t first_len,
                                          const uint32_t *second, size_t second_len, winchbarn_position pos);

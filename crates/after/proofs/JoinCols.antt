@@ -1,8 +1,8 @@
 -- The columns at which rows start once they are joined: their list, the walk of `start_col` over it, and where a position lands.
 use mathlib.Core.Path.{_≡_, refl, sym, ap, _∙_}
-use mathlib.Core.Bool.{Bool, false, cond, _||_, or-true}
+use mathlib.Core.Bool.{Bool, true, false, cond, _||_, or-true}
 use mathlib.Core.List.{List, [], _∷_, map}
-use mathlib.Core.Logic.{⊎-elim}
+use mathlib.Core.Logic.{inl, inr, ⊎-elim}
 use Prim.Native.Nat.{ℕ, zero, suc, _+_, _-_, _≤_, _<_, min, max}
 use native.Mathlib.Nat.{eq-or-lt-of-le, sub-zero}
 use native.Mathlib.Decide.{decLe}
@@ -14,8 +14,11 @@ use lib.ListN.{length, take, drop, getD, length-take}
 use lib.Seq.{drop-cons, drop-drop, getD-drop, getD-take}
 use Rattle.text.specs.declared.Position.{Position}
 use Rattle.text.specs.declared.Span.{Span}
-use Rattle.text.specs.Rows.{Line, line, lines, at, lastRow, rowLen, span}
+use Rattle.text.specs.Rows.{Line, line, lines, at, upto, _⊕_, lastRow, rowLen, span}
 use Rattle.text.specs.Text.{isLF}
+use Rattle.text.proofs.Laws.{add-same, add-next, add-to-row}
+use Rattle.text.proofs.Order.{is-upto, row-le, upto-trans}
+use Rattle.text.proofs.Adds.{Apart, apart, behind, order-moved}
 use Rattle.text.proofs.Fronts.{behind-front}
 use Rattle.edit.proofs.Maps.{mapLine, map-length}
 use Rattle.joins.specs.declared.JoinTurn.{JoinTurn}
@@ -172,6 +175,35 @@ landed-then row c cs p = elim (decLe (p .row .0) row) [
       | no k ↦ (let z : p .row .0 - 1 - length cs ≡ p .row .0 - suc (length cs) = omega arith in
           landed-below row cs q (omega arith) ∙ ap (λ (r : ℕ). at r (p .col .0)) z ∙ sym (landed-below row (c ∷ cs) p (omega arith)))
     ]
+
+-- ---- one join onto row r, where the row below is to begin at column c
+
+module _ (r c : ℕ) where
+  pub landed-behind : (d : Position) → landed r (c ∷ []) (at (suc r) 0 ⊕ d) ≡ at r c ⊕ d
+  landed-behind d = rw (add-to-row (suc r) (d .row .0) (d .col .0)) (go (d .row .0) (d .col .0))
+    where
+      go : (a j : ℕ) → landed r (c ∷ []) (at (suc r + a) j) ≡ at r c ⊕ at a j
+      go zero j =
+          let z : suc r + 0 - r - 1 ≡ 0 = omega arith in
+          landed-onto r (c ∷ []) (at (suc r + 0) j) (omega arith) (omega arith) ∙ rw (z, add-same r c j)
+      go (suc a) j = landed-below r (c ∷ []) (at (suc r + suc a) j) (omega arith) ∙ sym (add-next r c (suc a) j (omega arith) ∙ ap (λ (m : ℕ). at m j) (omega arith))
+
+  pub landed-order : (p q : Position) → (p .row .0 ≡ r → p .col .0 ≤ c) → upto p q ≡ true → upto (landed r (c ∷ []) p) (landed r (c ∷ []) q) ≡ true
+  landed-order p q within h = elim (decLe (p .row .0) r) [
+    | yes a ↦ rw (landed-above r (c ∷ []) p a) (elim (decLe (q .row .0) r) [
+      | yes b ↦ rw (landed-above r (c ∷ []) q b) h
+      | no b ↦ (let d = low q (omega arith) in rw (d .is, landed-behind (d .by)) (upto-trans p (at r c) (at r c ⊕ d .by) (ahead a) (behind (at r c) (d .by))))
+    ])
+    | no a ↦ (let d = low p (omega arith) in
+        let e = low q (omega (arith, row-le p q h)) in
+        rw (d .is, e .is, landed-behind (d .by), landed-behind (e .by)) (order-moved (at (suc r) 0) (at r c) (d .by) (e .by) (rw (d .is, e .is) at h)))
+  ]
+    where
+      low : (p : Position) → r < p .row .0 → Apart (at (suc r) 0) p
+      low p l = apart (at (suc r) 0) p (is-upto (at (suc r) 0) p (elim (decLe (p .row .0) (suc r)) [ yes k ↦ inr (omega arith, omega arith) | no k ↦ inl (omega arith) ]))
+
+      ahead : p .row .0 ≤ r → upto p (at r c) ≡ true
+      ahead a = is-upto p (at r c) (elim (decLe r (p .row .0)) [ yes k ↦ (let e : p .row .0 ≡ r = omega arith in inr (e, within e)) | no k ↦ inl (omega arith) ])
 
 -- of the rows that a join joins
 abbrev pub joinedCols : ℕ → ℕ → Bool → List ℕ → List ℕ

@@ -174,11 +174,11 @@ module _ {A : Type 0} (lf : A → Bool) {Free : A → Type 0} (lfs : (x : A) →
         elim (decLe c j) [ yes m ↦ rw (put-right c (length k) j m) (omega arith) | no m ↦ rw (put-left c (length k) j (omega arith)) (omega arith) ];
   }
 
-  put-all : (ks : List (List A)) (rs : List (Line A)) → putAll pad c ks rs ≡ rebodied (put pad c) ks rs
+  put-rebodied : (ks : List (List A)) (rs : List (Line A)) → putAll pad c ks rs ≡ rebodied (put pad c) ks rs
   unfolding putAll rebodied
-  put-all [] rs = refl
-  put-all (k ∷ ks) [] = refl
-  put-all (k ∷ ks) (r ∷ rs) = ap (_∷_ (line (put pad c k (r .body)) (r .after))) (put-all ks rs)
+  put-rebodied [] rs = refl
+  put-rebodied (k ∷ ks) [] = refl
+  put-rebodied (k ∷ ks) (r ∷ rs) = ap (_∷_ (line (put pad c k (r .body)) (r .after))) (put-rebodied ks rs)
 
   -- the payload's pieces are such chunks
   chunks : (ns : List ℕ) (X : List A) → Unbroken lf X → ((s : List A) (x : A) (r : List A) → X ≡ s ++ x ∷ r → Free x) → Every Chunk (pieces ns X)
@@ -197,7 +197,7 @@ module _ {A : Type 0} (lf sp : A → Bool) {Free : A → Type 0} (lfs : (x : A) 
   carries-block-insert dull padded q X ns l plain fresh =
       let c : ℕ = q .col .0 in
       let ks : List (List A) = pieces ns X in
-      carries-as lf (λ p. ap (λ (l : List ℕ). afterInsertBlock p q l) (pieces-lengths ns X l)) (ap (fromRow (lines lf t) (q .row .0)) (sym (put-all lf lfs (made .pad) dull padded c ks (drop (q .row .0) (lines lf t)))))
+      carries-as lf (λ p. ap (λ (l : List ℕ). afterInsertBlock p q l) (pieces-lengths ns X l)) (ap (fromRow (lines lf t) (q .row .0)) (sym (put-rebodied lf lfs (made .pad) dull padded c ks (drop (q .row .0) (lines lf t)))))
       (carries-from lf lfs (putIn c) (λ r lens p. afterInsertBlock p (at r c) lens) (λ r lens. put-in-rows (at r c) lens) (Chunk lf lfs (made .pad) dull padded c) length (put (made .pad) c)
       (put-row lf lfs (made .pad) dull padded c) t (q .row .0) ks (chunks lf lfs (made .pad) dull padded c ns X plain fresh))
 
@@ -207,13 +207,13 @@ module _ {A : Type 0} (c : ℕ) where
   abbrev cutBody : ℕ → List A → List A
   cutBody w b = take c b ++ drop (c + w) b
 
-  cut-all : (ws ds : List ℕ) → ((k : ℕ) → k < length ws → getD ds k 0 ≡ 0) → (rs : List (Line A)) → cutAll c ws ds rs ≡ rebodied cutBody ws rs
+  cut-rebodied : (ws ds : List ℕ) → ((k : ℕ) → k < length ws → getD ds k 0 ≡ 0) → (rs : List (Line A)) → cutAll c ws ds rs ≡ rebodied cutBody ws rs
   unfolding cutAll rebodied
-  cut-all [] ds z rs = refl
-  cut-all (w ∷ ws) ds z [] = refl
-  cut-all (w ∷ ws) ds z (r ∷ rs) =
+  cut-rebodied [] ds z rs = refl
+  cut-rebodied (w ∷ ws) ds z [] = refl
+  cut-rebodied (w ∷ ws) ds z (r ∷ rs) =
       let e : c - getD ds 0 0 ≡ c = (let i = z 0 (omega arith) in omega arith) in
-      rw (e, cut-all ws (drop 1 ds) (λ k l. getD-drop 1 ds k 0 ∙ ap (λ (i : ℕ). getD ds i 0) (omega arith) ∙ z (suc k) (omega arith)) rs)
+      rw (e, cut-rebodied ws (drop 1 ds) (λ k l. getD-drop 1 ds k 0 ∙ ap (λ (i : ℕ). getD ds i 0) (omega arith) ∙ z (suc k) (omega arith)) rs)
 
 module _ {A : Type 0} (lf : A → Bool) {Free : A → Type 0} (lfs : (x : A) → lf x ≡ true → Free x) (c : ℕ) where
   cut-row : Rebodies lf Free (cutOut c) (λ (w : ℕ). Unit {0}) (λ w. w) (cutBody c)
@@ -247,5 +247,5 @@ module _ {A : Type 0} (lf sp : A → Bool) {Free : A → Type 0} (lfs : (x : A) 
   unfolding chunksDeleted
   carries-chunks q ws ds z =
       let c : ℕ = q .col .0 in
-      carries-as lf (λ p. ap (λ (l : List ℕ). afterDeleteBlockChunks p q l) (map-id ws)) (ap (fromRow (lines lf t) (q .row .0)) (sym (cut-all c ws ds z (drop (q .row .0) (lines lf t)))))
+      carries-as lf (λ p. ap (λ (l : List ℕ). afterDeleteBlockChunks p q l) (map-id ws)) (ap (fromRow (lines lf t) (q .row .0)) (sym (cut-rebodied c ws ds z (drop (q .row .0) (lines lf t)))))
       (carries-from lf lfs (cutOut c) (λ r lens p. afterDeleteBlockChunks p (at r c) lens) (λ r lens. cut-in-rows (at r c) lens) (λ (w : ℕ). Unit {0}) (λ w. w) (cutBody c) (cut-row lf lfs c) t (q .row .0) ws (all-plain ws))

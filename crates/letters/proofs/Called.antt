@@ -1,15 +1,15 @@
 -- The statements of calls.
 use mathlib.Core.Path.{_≡_, refl, sym, _∙_, ap, subst}
-use mathlib.Core.Bool.{true}
-use mathlib.Core.Logic.{inl}
+use mathlib.Core.Bool.{true, false}
+use mathlib.Core.Logic.{inl, ⊎-elim}
 use mathlib.Core.List.{List, _∷_, _++_, map}
 use Prim.Native.Nat.{ℕ, suc, _≤_}
 use native.Mathlib.Omega.{arith}
 use borrow.Author.Tests.{le-leb}
 use lib.ListN.{length, length-append}
 use lib.Seq.{length-take-le}
-use Rattle.promise.specs.Paper.{done}
-use Rattle.promise.proofs.Bools.{T-true, both-true}
+use Rattle.promise.specs.Paper.{done, refused}
+use Rattle.promise.proofs.Bools.{T-true, both-true, known}
 use Rattle.text.specs.declared.Position.{Position}
 use Rattle.text.specs.Rows.{at, upto, endOf}
 use Rattle.text.specs.Text.{textOk}
@@ -34,13 +34,14 @@ use Rattle.shift.specs.declared.Shifted.the-variants.{At, Dropped, Refused}
 use Rattle.shift.specs.Answers.{Followed, to, dropped, paperShifted}
 use Rattle.shift.specs.Kinds.{shifted}
 use Rattle.shift.specs.Call.{orderedRange, orderedOk, shiftTests, positionShifted}
+use Rattle.shift.proofs.Theorems.{promises-settle}
 use Rattle.origins.specs.Origins.{Traced, value, lfAt, opened, tracedBy, tracedRun}
 use Rattle.origins.specs.Theorems.{editedText, textRun}
 use Rattle.origins.proofs.Values.{opened-value, traced-value}
 use Rattle.origins.proofs.Theorems.{origins-keep-text}
 use Rattle.letters.specs.Keeps.{Keeps, KeepsWhole}
 use Rattle.letters.specs.Theorems.{Markable}
-use Rattle.letters.specs.Calls.{LettersStayCall, ShiftCall, ShiftCallsExist, KeepingCall, FollowedTo, CodeLettersStay, NeverPass, CodeMarksMeet}
+use Rattle.letters.specs.Calls.{LettersStayCall, ShiftCall, ShiftCallsExist, KeepingCall, FollowedTo, CodeLettersStay, NeverPass, CodeMarksMeet, LedOnce, LedInOrder}
 use Rattle.letters.proofs.Theorems.{Known, opened-known, step-known, marks-meet}
 
 -- ---- calls of `shift_position`
@@ -63,9 +64,7 @@ shift-calls-exist s w p =
     record { answer = r .0; promise = r .1 ∙ ap (firstOf tests) (answer-is f) }
 
 was-at : (r : Shifted) (q : Position) → paperShifted r ≡ done (to q) → r ≡ At q
-was-at (At p) q e = let i : p ≡ q = cc in ap (λ (z : Position). At z) i
-was-at Dropped q e = cc
-was-at (Refused r) q e = cc
+was-at r q e = promises-settle .shift-position (done (to q)) r (At q) e refl
 
 -- ---- what an accepted call says of shifts over its edit
 
@@ -168,11 +167,11 @@ never-pass (step {s = s} {u = v} {e = w} h r) p q mp mq u = (
   λ sp sq c d.
       let l = marks-meet (text s) w (keeps-whole h) p q mp mq u in
       let t = text-after h in (
-        l .first,
-        l .second,
-        answers h p (l .first) sp (l .lands) c,
-        answers h q (l .second) sq (l .lands-second) d,
-        never-pass r (l .first) (l .second) (subst (λ (x : List ℕ). Markable x (l .first)) t (l .kept)) (subst (λ (x : List ℕ). Markable x (l .second)) t (l .kept-second)) (l .order),
+        l .p′,
+        l .q′,
+        answers h p (l .p′) sp (l .lands-p) c,
+        answers h q (l .q′) sq (l .lands-q) d,
+        never-pass r (l .p′) (l .q′) (subst (λ (x : List ℕ). Markable x (l .p′)) t (l .kept-p)) (subst (λ (x : List ℕ). Markable x (l .q′)) t (l .kept-q)) (l .order),
       ),
 )
 
@@ -194,3 +193,40 @@ letters-stay-call v e l a h k before behind c p letter =
     let n = shift-calls-exist s w p in
     let f = code-letters-stay s u (step kc stop) .letters before behind c p letter n in
     sym (n .promise) ∙ ap paperShifted (f .1) ∙ ap (λ (q : Position). done (to q)) (f .2)
+
+-- ---- what they say is not empty
+
+at-same : (r : Shifted) (m n : Position) → r ≡ At m → r ≡ At n → m ≡ n
+at-same r m n e f = cc
+
+pub led-once : LedOnce
+unfolding FollowedTo
+led-once s z stop p m n f g = sym f ∙ g
+led-once s z (step {s = s₁} {u = u} {e = w} h r) p m n f g =
+    let c = shift-calls-exist s w p in
+    let a = f c in
+    let b = g c in
+    led-once u z r (a .0) m n (a .2) (subst (λ (q : Position). FollowedTo r q n) (at-same (c .answer) (b .0) (a .0) (b .1) (a .1)) (b .2))
+
+was-small : {s : State} {w : Whole ℕ} {u : State} {i : Whole ℕ} → KeepingCall s w u i → (p q : Position) (c : ShiftCall s w p) → c .answer ≡ At q → smallPosition p ≡ true
+unfolding positionShifted firstOf
+was-small {s} {w} h p q c e = ⊎-elim (λ k. k) (λ k. absurd (no k)) (known (smallPosition p))
+  where
+    no : smallPosition p ≡ false → ⊥
+    no k =
+        let i : done (to q) ≡ refused 2 0 =
+        sym (ap paperShifted e) ∙ c .promise ∙ rw (textual h, T-true (smallOk (w .edit) (w .first) (w .second)) (passed h .smalls), k) in
+        let n : _≡_ {A = ℕ} 0 1 = cc in
+        omega arith
+
+pub led-in-order : LedInOrder
+unfolding FollowedTo NeverPass
+led-in-order s z stop p q m n u f g = rw (← f, ← g) u
+led-in-order s z (step {s = s₁} {u = v} {e = w} h r) p q m n u f g =
+    let c = shift-calls-exist s w p in
+    let d = shift-calls-exist s w q in
+    let a = f c in
+    let b = g d in
+    let k = u .1 (was-small h p (a .0) c (a .1)) (was-small h q (b .0) d (b .1)) c d in
+    led-in-order v z r (k .0) (k .1) m n (k .4) (subst (λ (x : Position). FollowedTo r x m) (at-same (c .answer) (a .0) (k .0) (a .1) (k .2)) (a .2))
+    (subst (λ (x : Position). FollowedTo r x n) (at-same (d .answer) (b .0) (k .1) (b .1) (k .3)) (b .2))

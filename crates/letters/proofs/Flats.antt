@@ -26,7 +26,8 @@ use Rattle.after.specs.After.{afterInsert, afterDeleteChar, afterDeleteLines}
 use Rattle.after.proofs.Inserts.{insert-before}
 use Rattle.after.proofs.Deletes.{delete-before, delete-inside, lines-above, lines-inside}
 use Rattle.after.proofs.Behind.{insert-behind, insert-there, insert-order, delete-behind, delete-order, lines-behind, lines-least, lines-order}
-use Rattle.letters.proofs.Carries.{Near, near-at, Carries}
+use Rattle.text.proofs.Near.{Near, near-at}
+use Rattle.letters.proofs.Carries.{Carries}
 use Rattle.letters.proofs.Splices.{Splice, past-goes, carries-splice}
 
 module _ {A : Type 0} (lf : A → Bool) {Free : A → Type 0} (lfs : (x : A) → lf x ≡ true → Free x) (t : List A) where

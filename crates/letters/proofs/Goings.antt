@@ -23,7 +23,8 @@ use Rattle.after.specs.After.{afterInsert, afterDeleteChar, afterJoin, afterIns
 use Rattle.after.proofs.Columns.{block-chunks}
 use Rattle.shift.specs.Answers.{to}
 use Rattle.shift.specs.Kinds.{afterDelete, shifted}
-use Rattle.letters.specs.Keeps.{KeepsRange, Keeps}
+use Rattle.shift.specs.Theorems.{FollowsRange}
+use Rattle.letters.specs.Keeps.{Keeps}
 use Rattle.letters.proofs.Carries.{Carries, carries-as}
 use Rattle.letters.proofs.Flats.{carries-insert, carries-chars, carries-lines, carries-replace}
 use Rattle.letters.proofs.Joins.{carries-join}
@@ -56,7 +57,7 @@ module _ {A : Type 0} (v : A → ℕ) (made : Made A) where
     stands : (q : Position) → clamp isLF (map v t) q ≡ q → clamp lf t q ≡ q
     stands q i = sym (map-clamp v lf isLF (λ x. refl) t q) ∙ i
 
-    goes-range : (a b : Position) (k : MotionKind) → KeepsRange (map v t) a b k → Carries lf Free (λ p. afterDelete p a b k) t (rangeDeleted lf sp made t a b k .text)
+    goes-range : (a b : Position) (k : MotionKind) → FollowsRange (map v t) a b k → Carries lf Free (λ p. afterDelete p a b k) t (rangeDeleted lf sp made t a b k .text)
     unfolding rangeDeleted afterDelete
     goes-range a b Char k = carries-chars lf lfs t a b (stands a (k .0)) (stands b (k .1)) (k .2)
     goes-range a b Lines k = carries-lines lf lfs t a b k

@@ -1,9 +1,8 @@
 -- Joins, one after another: what stands below an LF that goes moves up onto the row before it.
 use mathlib.Core.Path.{_≡_, refl, sym, _∙_, ap, subst}
 use mathlib.Core.Bool.{Bool, true, false, not}
-use mathlib.Core.Logic.{inl, inr}
 use mathlib.Core.List.{List, [], _∷_, _++_, append-assoc, append-nil, map}
-use Prim.Native.Nat.{ℕ, zero, suc, _+_, _-_, _≤_, _<_, min, max}
+use Prim.Native.Nat.{ℕ, suc, _+_, _≤_, _<_, min, max}
 use native.Mathlib.Nat.{zero-add}
 use native.Mathlib.Decide.{decLe}
 use native.Mathlib.Omega.{arith}
@@ -14,9 +13,8 @@ use Rattle.promise.proofs.Lists.{none-in}
 use Rattle.text.specs.declared.Position.{Position}
 use Rattle.text.specs.Rows.{Line, line, lines, unlines, at, upto, _⊕_, lastRow, rowLen, endOf}
 use Rattle.text.specs.Text.{isLF}
-use Rattle.text.proofs.Laws.{end-append, add-to-row, add-same, add-next, unlines-lines, rows-last, rows-len}
-use Rattle.text.proofs.Order.{is-upto, row-le, upto-trans}
-use Rattle.text.proofs.Adds.{Apart, apart, behind, order-moved}
+use Rattle.text.proofs.Laws.{end-append, unlines-lines, rows-last, rows-len}
+use Rattle.text.proofs.Order.{row-le}
 use Rattle.text.proofs.Holds.{end-first}
 use Rattle.text.proofs.Spots.{end-upto}
 use Rattle.text.proofs.Broken.{unlines-append, Unbroken, Broken, next, lines-broken, lines-unlines, broken-right, broken-change, row-end, row-next, rows-end}
@@ -26,38 +24,10 @@ use Rattle.edit.specs.Edits.{Made, gap, joinNext, joinRow, joined}
 use Rattle.edit.proofs.Joins.{gap-all, next-broken}
 use Rattle.edit.proofs.Maps.{mapLine, map-length, map-take, map-drop, map-lines, map-getD}
 use Rattle.after.specs.After.{startCols, afterJoin}
-use Rattle.after.proofs.JoinCols.{cols-map, landed, landed-none, landed-above, landed-onto, landed-below, landed-then, joinedCols, join-landed}
-use Rattle.letters.proofs.Carries.{Near, near-at, near-within, Carries, carries-then, carries-as, carries-none}
+use Rattle.after.proofs.JoinCols.{cols-map, landed, landed-none, landed-above, landed-then, landed-behind, landed-order, joinedCols, join-landed}
+use Rattle.text.proofs.Near.{Near, near-at, near-within}
+use Rattle.letters.proofs.Carries.{Carries, carries-then, carries-as, carries-none}
 use Rattle.letters.proofs.Splices.{Splice, past-goes, carries-splice}
-
--- ---- one join onto row r, where the row below is to begin at column c
-
-module _ (r c : ℕ) where
-  join-behind : (d : Position) → landed r (c ∷ []) (at (suc r) 0 ⊕ d) ≡ at r c ⊕ d
-  join-behind d = rw (add-to-row (suc r) (d .row .0) (d .col .0)) (go (d .row .0) (d .col .0))
-    where
-      go : (a j : ℕ) → landed r (c ∷ []) (at (suc r + a) j) ≡ at r c ⊕ at a j
-      go zero j =
-          let z : suc r + 0 - r - 1 ≡ 0 = omega arith in
-          landed-onto r (c ∷ []) (at (suc r + 0) j) (omega arith) (omega arith) ∙ rw (z, add-same r c j)
-      go (suc a) j = landed-below r (c ∷ []) (at (suc r + suc a) j) (omega arith) ∙ sym (add-next r c (suc a) j (omega arith) ∙ ap (λ (m : ℕ). at m j) (omega arith))
-
-  join-order : (p q : Position) → (p .row .0 ≡ r → p .col .0 ≤ c) → upto p q ≡ true → upto (landed r (c ∷ []) p) (landed r (c ∷ []) q) ≡ true
-  join-order p q within h = elim (decLe (p .row .0) r) [
-    | yes a ↦ rw (landed-above r (c ∷ []) p a) (elim (decLe (q .row .0) r) [
-      | yes b ↦ rw (landed-above r (c ∷ []) q b) h
-      | no b ↦ (let d = low q (omega arith) in rw (d .is, join-behind (d .by)) (upto-trans p (at r c) (at r c ⊕ d .by) (ahead a) (behind (at r c) (d .by))))
-    ])
-    | no a ↦ (let d = low p (omega arith) in
-        let e = low q (omega (arith, row-le p q h)) in
-        rw (d .is, e .is, join-behind (d .by), join-behind (e .by)) (order-moved (at (suc r) 0) (at r c) (d .by) (e .by) (rw (d .is, e .is) at h)))
-  ]
-    where
-      low : (p : Position) → r < p .row .0 → Apart (at (suc r) 0) p
-      low p l = apart (at (suc r) 0) p (is-upto (at (suc r) 0) p (elim (decLe (p .row .0) (suc r)) [ yes k ↦ inr (omega arith, omega arith) | no k ↦ inl (omega arith) ]))
-
-      ahead : p .row .0 ≤ r → upto p (at r c) ≡ true
-      ahead a = is-upto p (at r c) (elim (decLe r (p .row .0)) [ yes k ↦ (let e : p .row .0 ≡ r = omega arith in inr (e, within e)) | no k ↦ inl (omega arith) ])
 
 module _ {A : Type 0} (lf : A → Bool) {Free : A → Type 0} (lfs : (x : A) → lf x ≡ true → Free x) (space : A) (dull : T (not (lf space))) (spaced : Free space) (b : Bool) where
   -- what comes in is that space
@@ -124,7 +94,7 @@ module _ {A : Type 0} (lf : A → Bool) {Free : A → Type 0} (lfs : (x : A) →
         row-le (endOf lf s) (at r (length d)) (subst (λ (p : Position). upto (endOf lf s) p ≡ true) e (end-upto lf s v))
 
     goes : (p : Position) → landed r (c ∷ []) (endOf lf P ⊕ endOf lf (k ∷ []) ⊕ p) ≡ endOf lf P ⊕ endOf lf G ⊕ p
-    goes p = rw (begins, lands) (join-behind r c p)
+    goes p = rw (begins, lands) (landed-behind r c p)
 
     only : (s : List A) (x : A) (v : List A) → k ∷ [] ≡ s ++ x ∷ v → Near lf (P ++ (G ++ Q)) (landed r (c ∷ []) (endOf lf P ⊕ endOf lf s))
     only [] x v e = near-at lf P (G ++ Q) (landed r (c ∷ []) (endOf lf P ⊕ endOf lf [])) (sym (ap (landed r (c ∷ [])) (end-first lf (endOf lf P)) ∙ landed-above r (c ∷ []) (endOf lf P) (up-to-row P [] (sym (append-nil P)))))
@@ -150,7 +120,7 @@ module _ {A : Type 0} (lf : A → Bool) {Free : A → Type 0} (lfs : (x : A) →
         } in
         subst (λ (l : List A). Carries lf Free (landed r (c ∷ [])) (unlines (X ++ line d (k ∷ []) ∷ y ∷ Y)) l) (sym after)
         (subst (λ (l : List A). Carries lf Free (landed r (c ∷ [])) l (P ++ (G ++ Q))) (sym before)
-        (carries-splice lf s lfs (gap-free d (y .body)) (λ p z m u. join-order r c p z (in-row-r p (rw before m)) u)))
+        (carries-splice lf s lfs (gap-free d (y .body)) (λ p z m u. landed-order r c p z (in-row-r p (rw before m)) u)))
 
   next-join : (X : List (Line A)) {x : Line A} (y : Line A) (Y : List (Line A)) → Broken lf (x ∷ y ∷ Y) → Broken lf (X ++ x ∷ y ∷ Y)
       → Carries lf Free (landed (length X) ((length (x .body) + gapLen b (length (x .body)) (length (y .body))) ∷ [])) (unlines (X ++ x ∷ y ∷ Y)) (unlines (X ++ joinNext space b x y ∷ Y))

@@ -19,7 +19,8 @@ use Rattle.text.proofs.Holds.{Holds, holds-none, holds-single, holds-append, ho
 use Rattle.text.proofs.Spots.{end-in-rows}
 use Rattle.text.proofs.Broken.{unlines-append, Unbroken, Broken, final, next, lines-unlines, first-body, broken-right, broken-change, row-next, rows-end}
 use Rattle.after.proofs.Columns.{InRows, rows-order}
-use Rattle.letters.proofs.Carries.{Within, near-within, within-near, Carries}
+use Rattle.text.proofs.Near.{Within, near-within, within-near}
+use Rattle.letters.proofs.Carries.{Carries}
 
 module _ {A : Type 0} (lf : A → Bool) where
   module _ {Free : A → Type 0} (lfs : (x : A) → lf x ≡ true → Free x) {sh : Position → Position} {col : ℕ → ℕ → ℕ} (g : InRows sh col) where

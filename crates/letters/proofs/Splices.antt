@@ -12,7 +12,8 @@ use Rattle.text.proofs.Laws.{end-append, end-take, add-origin, add-positions}
 use Rattle.text.proofs.Order.{upto-self}
 use Rattle.text.proofs.Adds.{apart, behind}
 use Rattle.text.proofs.Holds.{Holds, holds-append, holds-left, holds-right, holds-anywhere, holds-carried, end-both}
-use Rattle.letters.proofs.Carries.{Near, near-front, Carries}
+use Rattle.text.proofs.Near.{Near, near-front}
+use Rattle.letters.proofs.Carries.{Carries}
 
 module _ {A : Type 0} (lf : A → Bool) where
   abbrev end : List A → Position

@@ -95,13 +95,13 @@ pub marks-meet : MarksMeet
 marks-meet t w h p q mp mq u =
     let g = goes-plain t w h in
     record {
-      first = g .by p;
-      second = g .by q;
-      lands = lands g p;
-      lands-second = lands g q;
+      p′ = g .by p;
+      q′ = g .by q;
+      lands-p = lands g p;
+      lands-q = lands g q;
       order = g .carries .order p q mp u;
-      kept = g .carries .marks p mp;
-      kept-second = g .carries .marks q mq;
+      kept-p = g .carries .marks p mp;
+      kept-q = g .carries .marks q mq;
     }
   where
     lands : (g : Goes (λ (x : ℕ). x) spaces (λ (x : ℕ). Unit {0}) t (w .payload) (w .first) (w .second) (w .edit)) (p : Position) → shifted t (w .edit) (w .payload) (w .first) p ≡ to (g .by p)
@@ -111,15 +111,15 @@ marks-meet t w h p q mp mq u =
 
 run-meets : (t : List ℕ) (ws : List (Whole ℕ)) → KeepsRun t ws → (p q : Position) → Markable t p → Markable t q → upto p q ≡ true → LandedRun t ws p q
 unfolding KeepsRun shiftedOver
-run-meets t [] h p q mp mq u = record { first = p; second = q; lands = refl; lands-second = refl; order = u }
+run-meets t [] h p q mp mq u = record { p′ = p; q′ = q; lands-p = refl; lands-q = refl; order = u }
 run-meets t (w ∷ ws) h p q mp mq u =
     let l = marks-meet t w (h .0) p q mp mq u in
-    let r = run-meets (editedText w t) ws (h .1) (l .first) (l .second) (l .kept) (l .kept-second) (l .order) in
+    let r = run-meets (editedText w t) ws (h .1) (l .p′) (l .q′) (l .kept-p) (l .kept-q) (l .order) in
     record {
-      first = r .first;
-      second = r .second;
-      lands = ap (shiftedOver (editedText w t) ws) (l .lands) ∙ r .lands;
-      lands-second = ap (shiftedOver (editedText w t) ws) (l .lands-second) ∙ r .lands-second;
+      p′ = r .p′;
+      q′ = r .q′;
+      lands-p = ap (shiftedOver (editedText w t) ws) (l .lands-p) ∙ r .lands-p;
+      lands-q = ap (shiftedOver (editedText w t) ws) (l .lands-q) ∙ r .lands-q;
       order = r .order;
     }
 

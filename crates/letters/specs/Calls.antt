@@ -63,6 +63,8 @@ pub record LettersFollowed {s z : State} (r : Run KeepingCall s z) : Type 0 wher
   pub letters : (before behind : List Traced) (c : Traced) (p : Position) → Letter (tracedRun 0 (opened (text s)) (edits r)) before behind c p
       → FollowedTo r p (endOf lfAt before)
 
+-- "each character other than LF that the edit's definition doesn't remove stands afterwards at the shifted position of where it stood before"; "the shifts composed
+-- give the same place as the surviving character's in the last text"
 abbrev pub CodeLettersStay : Type 0
 CodeLettersStay = (s z : State) (r : Run KeepingCall s z) → LettersFollowed r
 
@@ -74,5 +76,13 @@ NeverPass (step {s = s} {e = w} h r) p q =
     × (smallPosition p ≡ true → smallPosition q ≡ true → (c : ShiftCall s w p) (d : ShiftCall s w q)
     → (m : Position) × (n : Position) × (c .answer ≡ At m) × (d .answer ≡ At n) × NeverPass r m n)
 
+-- "Two marks in the text may meet but never pass each other."
 abbrev pub CodeMarksMeet : Type 0
 CodeMarksMeet = (s z : State) (r : Run KeepingCall s z) (p q : Position) → Stands (text s) p → Stands (text s) q → upto p q ≡ true → NeverPass r p q
+
+-- What both say is not empty: no position is led to two places, and two that are led along the run end in order.
+abbrev pub LedOnce : Type 0
+LedOnce = (s z : State) (r : Run KeepingCall s z) (p m n : Position) → FollowedTo r p m → FollowedTo r p n → m ≡ n
+
+abbrev pub LedInOrder : Type 0
+LedInOrder = (s z : State) (r : Run KeepingCall s z) (p q m n : Position) → NeverPass r p q → FollowedTo r p m → FollowedTo r q n → upto m n ≡ true

@@ -1,4 +1,4 @@
--- A run of every kind over which marks stay, by calls and by computation; and for each condition an edit without it, by which a letter strays.
+-- A run of every kind over which marks stay, by calls and by computation; and for each condition of `Keeps` an edit without it, by which a letter strays.
 -- In a text "/" is LF, 10; a is 97, X is 88, a space 32.
 use mathlib.Core.Bool.{true, false}
 use mathlib.Core.List.{List, [], _∷_, _++_, map}
@@ -16,59 +16,68 @@ use Rattle.edit.specs.Examples.{plain}
 use Rattle.edit.specs.Examples as edit
 use Rattle.shift.specs.Answers.{Followed, to, dropped}
 use Rattle.shift.specs.Kinds.{shifted}
-use Rattle.origins.specs.Origins.{opening, payload, Traced, lfAt, opened, tracedBy, tracedRun}
+use Rattle.shift.specs.Examples.{abcd}
+use Rattle.origins.specs.Origins.{opening, payload, Traced, traced, lfAt, opened, tracedBy, tracedRun}
 use Rattle.origins.specs.Theorems.{editedText}
 use Rattle.letters.specs.Keeps.{KeepsRun, shiftedOver}
+use Rattle.letters.specs.Theorems.{Letter, Landed, LandedRun}
 use Rattle.letters.specs.Calls.{KeepingCall, FollowedTo, NeverPass}
 
--- "ab/cd"
-abbrev pub abcd : List ℕ
-abcd = 97 ∷ 98 ∷ 10 ∷ 99 ∷ 100 ∷ []
-
--- a break before b and Y behind it; c's row onto that one; blanks before Z in the first row; the blanks out again; a block named from its
--- lower end; b's neighbour replaced; the break out again; a row in front, and gone
+-- Of "ab/cd": a break before b; Y before c, in a row that was not there; c's row onto b's, count 0; a join of a row past the last; blanks before Z in the first row, and a
+-- chunk for a row that is not there; a column out again, with a width for that row and a pad behind the last width; a chunk past its row's end; a block named from its lower end,
+-- past the last row; what is behind b replaced; the break out again; a row in front, and gone; a row behind, and gone with rows past the last
 abbrev pub sampleEdits : List (Whole ℕ)
 sampleEdits =
     plain (InsertStr (at 0 1)) (88 ∷ 10 ∷ [])
-    ∷ plain (InsertChar (at 1 1)) (89 ∷ [])
-    ∷ plain (JoinLines (rowAt 1) 1 true) []
-    ∷ whole (InsertBlock (at 0 3)) (90 ∷ 90 ∷ []) (1 ∷ 1 ∷ []) []
-    ∷ whole (DeleteBlockChunks (at 0 2)) [] (1 ∷ 1 ∷ []) []
-    ∷ plain (DeleteRange (at 1 1) (at 0 1) Block) []
+    ∷ plain (InsertChar (at 2 0)) (89 ∷ [])
+    ∷ plain (JoinLines (rowAt 1) 0 true) []
+    ∷ plain (JoinLines (rowAt 9) 1 true) []
+    ∷ whole (InsertBlock (at 0 3)) (90 ∷ 90 ∷ 90 ∷ []) (1 ∷ 1 ∷ 1 ∷ []) []
+    ∷ whole (DeleteBlockChunks (at 0 2)) [] (1 ∷ 1 ∷ 5 ∷ []) (0 ∷ 0 ∷ 0 ∷ 7 ∷ [])
+    ∷ whole (DeleteBlockChunks (at 0 9)) [] (3 ∷ []) []
+    ∷ plain (DeleteRange (at 2 1) (at 0 1) Block) []
     ∷ plain (Replace (at 1 1) (at 1 2)) (81 ∷ [])
     ∷ plain (DeleteRange (at 0 1) (at 1 0) Char) []
     ∷ plain (InsertStr (at 0 0)) (82 ∷ 10 ∷ [])
     ∷ plain (DeleteRange (at 0 9) (at 0 0) Lines) []
+    ∷ plain (InsertStr (at 0 5)) (10 ∷ 83 ∷ [])
+    ∷ plain (DeleteRange (at 1 0) (at 9 0) Lines) []
     ∷ []
 
--- "aX/b/cd", "aX/bY/cd", "aX/bY cd", "aX Z/bY Zcd", "aXZ/bYZcd", "aZ/bZcd", "aZ/bQcd", "abQcd", "R/abQcd", "abQcd"
+-- "aX/b/cd", "aX/b/Ycd", "aX/b Ycd", "aX/b Ycd", "aX Z/b YZcd", "aXZ/b Zcd", "aXZ/b Zcd", "aZ/bZcd", "aZ/bQcd", "abQcd", "R/abQcd", "abQcd", "abQcd/S", "abQcd"
 abbrev pub sampleTexts : List (List ℕ)
 sampleTexts =
     abcd
     ∷ (97 ∷ 88 ∷ 10 ∷ 98 ∷ 10 ∷ 99 ∷ 100 ∷ [])
-    ∷ (97 ∷ 88 ∷ 10 ∷ 98 ∷ 89 ∷ 10 ∷ 99 ∷ 100 ∷ [])
-    ∷ (97 ∷ 88 ∷ 10 ∷ 98 ∷ 89 ∷ 32 ∷ 99 ∷ 100 ∷ [])
-    ∷ (97 ∷ 88 ∷ 32 ∷ 90 ∷ 10 ∷ 98 ∷ 89 ∷ 32 ∷ 90 ∷ 99 ∷ 100 ∷ [])
-    ∷ (97 ∷ 88 ∷ 90 ∷ 10 ∷ 98 ∷ 89 ∷ 90 ∷ 99 ∷ 100 ∷ [])
+    ∷ (97 ∷ 88 ∷ 10 ∷ 98 ∷ 10 ∷ 89 ∷ 99 ∷ 100 ∷ [])
+    ∷ (97 ∷ 88 ∷ 10 ∷ 98 ∷ 32 ∷ 89 ∷ 99 ∷ 100 ∷ [])
+    ∷ (97 ∷ 88 ∷ 10 ∷ 98 ∷ 32 ∷ 89 ∷ 99 ∷ 100 ∷ [])
+    ∷ (97 ∷ 88 ∷ 32 ∷ 90 ∷ 10 ∷ 98 ∷ 32 ∷ 89 ∷ 90 ∷ 99 ∷ 100 ∷ [])
+    ∷ (97 ∷ 88 ∷ 90 ∷ 10 ∷ 98 ∷ 32 ∷ 90 ∷ 99 ∷ 100 ∷ [])
+    ∷ (97 ∷ 88 ∷ 90 ∷ 10 ∷ 98 ∷ 32 ∷ 90 ∷ 99 ∷ 100 ∷ [])
     ∷ (97 ∷ 90 ∷ 10 ∷ 98 ∷ 90 ∷ 99 ∷ 100 ∷ [])
     ∷ (97 ∷ 90 ∷ 10 ∷ 98 ∷ 81 ∷ 99 ∷ 100 ∷ [])
     ∷ (97 ∷ 98 ∷ 81 ∷ 99 ∷ 100 ∷ [])
     ∷ (82 ∷ 10 ∷ 97 ∷ 98 ∷ 81 ∷ 99 ∷ 100 ∷ [])
+    ∷ (97 ∷ 98 ∷ 81 ∷ 99 ∷ 100 ∷ [])
+    ∷ (97 ∷ 98 ∷ 81 ∷ 99 ∷ 100 ∷ 10 ∷ 83 ∷ [])
     ∷ (97 ∷ 98 ∷ 81 ∷ 99 ∷ 100 ∷ [])
     ∷ []
 
 -- the hypothesis of the theorems on texts is met, and the shifts composed are these
 pub record SampleRun : Type 0 where
   pub keeps : KeepsRun abcd sampleEdits
-  -- all four letters stand in the last text, and Q of edit 6
-  pub origins : map (λ (c : Traced). c .origin) (tracedRun 0 (opened abcd) sampleEdits) ≡ opening (at 0 0) ∷ opening (at 0 1) ∷ payload 6 0 ∷ opening (at 1 0) ∷ opening (at 1 1) ∷ []
+  -- all four letters stand in the last text, and Q of edit 8
+  pub origins : map (λ (c : Traced). c .origin) (tracedRun 0 (opened abcd) sampleEdits) ≡ opening (at 0 0) ∷ opening (at 0 1) ∷ payload 8 0 ∷ opening (at 1 0) ∷ opening (at 1 1) ∷ []
+  pub letter-a : Letter (tracedRun 0 (opened abcd) sampleEdits) [] (traced 98 (opening (at 0 1)) ∷ traced 81 (payload 8 0) ∷ traced 99 (opening (at 1 0)) ∷ traced 100 (opening (at 1 1)) ∷ []) (traced 97 (opening (at 0 0))) (at 0 0)
+  pub letter-c : Letter (tracedRun 0 (opened abcd) sampleEdits) (traced 97 (opening (at 0 0)) ∷ traced 98 (opening (at 0 1)) ∷ traced 81 (payload 8 0) ∷ []) (traced 100 (opening (at 1 1)) ∷ []) (traced 99 (opening (at 1 0))) (at 1 0)
   pub a : shiftedOver abcd sampleEdits (to (at 0 0)) ≡ to (at 0 0)
   pub b : shiftedOver abcd sampleEdits (to (at 0 1)) ≡ to (at 0 1)
   pub c : shiftedOver abcd sampleEdits (to (at 1 0)) ≡ to (at 0 3)
   pub d : shiftedOver abcd sampleEdits (to (at 1 1)) ≡ to (at 0 4)
 
--- and that of those on calls, with slices for the inverse that are shorter than demand 3's: whoever calls for d's place is led to it, and marks
--- on b and on c never pass
+-- and that of those on calls, with slices for the inverse that are shorter than demand 3's: whoever calls for d's place is led to where it stands,
+-- and marks on b and on c never pass
 pub record SampleCalls : Type 0 where
   pub last : State
   pub run : Run KeepingCall (edit.opened abcd) last
@@ -125,3 +134,5 @@ pub record MarksNeeded : Type 0 where
   pub past-first : shifted (97 ∷ 10 ∷ 98 ∷ []) (JoinLines (rowAt 0) 1 false) [] [] (at 0 9) ≡ to (at 0 9)
   pub past-second : shifted (97 ∷ 10 ∷ 98 ∷ []) (JoinLines (rowAt 0) 1 false) [] [] (at 1 0) ≡ to (at 0 1)
   pub passed : upto (at 0 9) (at 0 1) ≡ false
+  pub not-landed : Landed (97 ∷ 10 ∷ 98 ∷ []) (plain (JoinLines (rowAt 0) 1 false) []) (at 0 9) (at 1 0) → ⊥
+  pub not-landed-run : LandedRun (97 ∷ 10 ∷ 98 ∷ []) (plain (JoinLines (rowAt 0) 1 false) [] ∷ []) (at 0 9) (at 1 0) → ⊥

@@ -2,12 +2,10 @@
 use mathlib.Core.Bool.{true}
 use mathlib.Core.List.{List, [], _∷_}
 use mathlib.Core.Path.{_≡_}
-use Prim.Native.Nat.{ℕ, _≤_, _<_}
+use Prim.Native.Nat.{ℕ, _<_}
 use lib.ListN.{length, getD}
 use Rattle.text.specs.declared.Position.{Position}
-use Rattle.text.specs.Rows.{upto}
-use Rattle.edit.specs.declared.MotionKind.{MotionKind}
-use Rattle.edit.specs.declared.MotionKind.the-variants.{Char, Line as Lines, Block}
+use Rattle.edit.specs.declared.MotionKind.the-variants.{Char}
 use Rattle.edit.specs.declared.Edit.{Edit}
 use Rattle.edit.specs.declared.Edit.the-variants.{InsertChar, InsertStr, DeleteRange, JoinLines, SplitLines, Replace, InsertBlock, DeleteBlockChunks}
 use Rattle.edit.specs.Edits.{Whole}
@@ -15,24 +13,20 @@ use Rattle.edit.specs.Refusals.{payloadOk}
 use Rattle.edit.specs.Theorems.{Stands}
 use Rattle.shift.specs.Answers.{Followed, to, dropped}
 use Rattle.shift.specs.Kinds.{shifted}
+use Rattle.shift.specs.Theorems.{FollowsRange}
 use Rattle.origins.specs.Theorems.{editedText}
 
 -- "not SplitLines and not a DeleteBlockChunks with a pad above 0, whose ends are in order; every position it names is in the text, except
--- that a block edit may reach past row ends or the last row and a join's row may too". A Line delete names rows alone, a Block's ends may
--- be in any order, and a pad behind the last width is none.
-abbrev pub KeepsRange : List ℕ → Position → Position → MotionKind → Type 0
-KeepsRange t a b Char = Stands t a × Stands t b × (upto a b ≡ true)
-KeepsRange t a b Lines = a .row .0 ≤ b .row .0
-KeepsRange t a b Block = Unit {0}
-
--- the edit, with its first and its second list
+-- that a block edit may reach past row ends or the last row and a join's row may too". `FollowsRange` of `shift` asks just that of a deleted range: of Char both
+-- ends in the text and in order; of Line, which names rows alone, the rows in order, be they past the last; of Block nothing. A pad behind the last width is none.
+-- The edit, with its first and its second list:
 abbrev pub Keeps : List ℕ → Edit → List ℕ → List ℕ → Type 0
 Keeps t (InsertChar q) f s = Stands t q
 Keeps t (InsertStr q) f s = Stands t q
-Keeps t (DeleteRange a b k) f s = KeepsRange t a b k
+Keeps t (DeleteRange a b k) f s = FollowsRange t a b k
 Keeps t (JoinLines r n b) f s = Unit {0}
 Keeps t (SplitLines r) f s = ⊥
-Keeps t (Replace a b) f s = Stands t a × Stands t b × (upto a b ≡ true)
+Keeps t (Replace a b) f s = FollowsRange t a b Char
 Keeps t (InsertBlock q) f s = Unit {0}
 Keeps t (DeleteBlockChunks q) f s = (k : ℕ) → k < length f → getD s k 0 ≡ 0
 

@@ -32,19 +32,19 @@ LettersStayRun =
 
 -- ---- marks
 
--- A mark in the text, or not before its end: a Line delete of the last rows puts a mark behind the text, and it stays behind until text comes there.
+-- A mark in the text, or not before its end: a Line delete of the last rows leaves a mark behind the text.
 abbrev pub Markable : List ℕ → Position → Type 0
 Markable t p = Stands t p ⊎ (upto (endOf isLF t) p ≡ true)
 
 -- over one edit both are carried to places, in order, where they are such marks still
 pub record Landed (t : List ℕ) (w : Whole ℕ) (p q : Position) : Type 0 where
-  pub first : Position
-  pub second : Position
-  pub lands : shifted t (w .edit) (w .payload) (w .first) p ≡ to first
-  pub lands-second : shifted t (w .edit) (w .payload) (w .first) q ≡ to second
-  pub order : upto first second ≡ true
-  pub kept : Markable (editedText w t) first
-  pub kept-second : Markable (editedText w t) second
+  pub p′ : Position
+  pub q′ : Position
+  pub lands-p : shifted t (w .edit) (w .payload) (w .first) p ≡ to p′
+  pub lands-q : shifted t (w .edit) (w .payload) (w .first) q ≡ to q′
+  pub order : upto p′ q′ ≡ true
+  pub kept-p : Markable (editedText w t) p′
+  pub kept-q : Markable (editedText w t) q′
 
 -- "Two marks in the text may meet but never pass each other."
 abbrev pub MarksMeet : Type 0
@@ -52,11 +52,11 @@ MarksMeet = (t : List ℕ) (w : Whole ℕ) → KeepsWhole t w → (p q : Positio
 
 -- and over runs
 pub record LandedRun (t : List ℕ) (ws : List (Whole ℕ)) (p q : Position) : Type 0 where
-  pub first : Position
-  pub second : Position
-  pub lands : shiftedOver t ws (to p) ≡ to first
-  pub lands-second : shiftedOver t ws (to q) ≡ to second
-  pub order : upto first second ≡ true
+  pub p′ : Position
+  pub q′ : Position
+  pub lands-p : shiftedOver t ws (to p) ≡ to p′
+  pub lands-q : shiftedOver t ws (to q) ≡ to q′
+  pub order : upto p′ q′ ≡ true
 
 abbrev pub MarksMeetRun : Type 0
 MarksMeetRun = (t : List ℕ) (ws : List (Whole ℕ)) → KeepsRun t ws → (p q : Position) → Stands t p → Stands t q → upto p q ≡ true → LandedRun t ws p q

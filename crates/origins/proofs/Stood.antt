@@ -10,7 +10,7 @@ use Rattle.text.specs.Text.{isLF}
 use Rattle.text.proofs.Laws.{end-append, end-none}
 use Rattle.edit.specs.Edits.{Whole}
 use Rattle.edit.proofs.Natural.{every-edited}
-use Rattle.origins.specs.Origins.{opening, payload, Traced, lfAt, spaceAt, openedAt, opened, numbered, madeBy, tracedBy, tracedRun}
+use Rattle.origins.specs.Origins.{opening, Traced, lfAt, spaceAt, openedAt, opened, numbered, madeBy, tracedBy, tracedRun}
 use Rattle.origins.specs.Theorems.{StandsAt}
 use Rattle.origins.proofs.Fresh.{no-padding, no-space, no-break, no-item}
 

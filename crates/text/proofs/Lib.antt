@@ -10,6 +10,7 @@ pub mod Holds
 pub mod Broken
 pub mod Ended
 pub mod Spots
+pub mod Near
 pub mod Walks
 pub mod Changes
 pub mod Turns

@@ -38,7 +38,7 @@ const FOLLOWED: usize = 256;
 /// An opening text's letters go up from this one; no payload, pad or join space is one of them.
 const FIRST_LETTER: u32 = 0x2_0000;
 
-/// Whether request 6 speaks of this edit. A Line delete names rows only, which may lie past the last, a Block's ends may be in any order,
+/// Whether the theorem of request 6 speaks of this edit. A Line delete names rows only, which may lie past the last, a Block's ends may be in any order,
 /// and pads behind the last width do not count.
 pub fn allowed(text: &[u32], whole: &Whole) -> bool {
     let lengths = row_lengths(text);
@@ -340,10 +340,31 @@ fn any_edit(random: &mut Random, text: &[u32]) -> Whole {
         let counted = whole.second.iter_mut().take(widths);
         counted.for_each(|pad| *pad = 0);
     }
+    if random.one_in(20) {
+        lengthen(random, &mut whole);
+    }
     if random.one_in(2) {
         cases::litter(random, &mut whole);
     }
     whole
+}
+
+/// Puts in, or cuts, much or in many rows.
+fn lengthen(random: &mut Random, whole: &mut Whole) {
+    let much = random.between(65, 300);
+    let items = random.pick(&[1, 100]);
+    match whole.edit.kind {
+        INSERT_STR | REPLACE => whole.payload = cases::text(random, much),
+        INSERT_BLOCK => {
+            whole.first = vec![(much / items) as u32; items];
+            whole.payload = cases::letters(random, much / items * items);
+        }
+        DELETE_BLOCK_CHUNKS => {
+            whole.first = vec![(much / items) as u32; items];
+            whole.second.clear();
+        }
+        _ => (),
+    }
 }
 
 #[cfg(test)]
@@ -417,9 +438,9 @@ mod tests {
         }
     }
 
-    /// None of these loses a letter: only the words say which are allowed.
+    /// None of these loses a letter: only the definition says which are allowed.
     #[test]
-    fn allowed_is_as_request_6_is_read() {
+    fn allowed_is_as_the_definition_has_it() {
         let readings = [
             ("a", whole(DELETE_LINE, at(0, 9), at(0, 9)), true),
             ("a\nb", whole(DELETE_LINE, at(1, 0), at(9, 0)), true),

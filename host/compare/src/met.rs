@@ -4,8 +4,8 @@ use std::fmt;
 
 use winchbarn::Position;
 use winchbarn::raw::{
-    DELETE_BLOCK, DELETE_BLOCK_CHUNKS, DELETE_LINE, INSERT_BLOCK, INSERT_STR, JOIN_LINES_SPACED,
-    SPLIT_LINES,
+    DELETE_BLOCK, DELETE_BLOCK_CHUNKS, DELETE_LINE, INSERT_BLOCK, INSERT_STR, JOIN_LINES,
+    JOIN_LINES_SPACED, REPLACE, SPLIT_LINES,
 };
 
 use crate::calls::Whole;
@@ -19,7 +19,7 @@ const ENOUGH: u64 = 1_000;
 /// What an edit between two stages may meet.
 type Situation = fn(&Stage, &Whole, &Stage) -> bool;
 
-const SITUATIONS: [(&str, Situation); 12] = [
+const SITUATIONS: [(&str, Situation); 18] = [
     ("a letter goes down by an insertion", goes_down),
     ("a join adds a space", |a, w, b| spaces(a, w, b).1 > 0),
     ("a join lacks a space", |a, w, b| {
@@ -32,6 +32,24 @@ const SITUATIONS: [(&str, Situation); 12] = [
     ("a Line delete takes the last rows", takes_last_rows),
     ("a Line delete begins past the last row", begins_past_rows),
     ("a pad stands behind the last width", surplus_pad),
+    ("a join names a row past the last", |a, w, _| {
+        [JOIN_LINES, JOIN_LINES_SPACED].contains(&w.edit.kind) && past_rows(a, w, 0)
+    }),
+    ("a block insert has a chunk for an absent row", |a, w, _| {
+        w.edit.kind == INSERT_BLOCK && past_rows(a, w, w.first.len().max(1) - 1)
+    }),
+    ("chunks are deleted of an absent row", |a, w, _| {
+        w.edit.kind == DELETE_BLOCK_CHUNKS && past_rows(a, w, w.first.len().max(1) - 1)
+    }),
+    ("a deleted chunk reaches past its row's end", chunk_past_row),
+    ("much is put in", |_, w, _| {
+        [INSERT_STR, REPLACE].contains(&w.edit.kind) && w.payload.len() > 64
+    }),
+    ("many chunks are put in or deleted", |a, w, b| {
+        [INSERT_BLOCK, DELETE_BLOCK_CHUNKS].contains(&w.edit.kind)
+            && w.first.len() > 64
+            && a.state != b.state
+    }),
     ("a mark meets another", meet),
     ("a mark is left behind the text's end", |_, _, after| {
         behind_end(after).is_some()
@@ -94,6 +112,25 @@ fn takes_last_rows(before: &Stage, whole: &Whole, _: &Stage) -> bool {
 fn begins_past_rows(before: &Stage, whole: &Whole, _: &Stage) -> bool {
     let rows = row_lengths(before.state.text()).len();
     whole.edit.kind == DELETE_LINE && rows > 1 && whole.edit.start.row as usize >= rows
+}
+
+/// The row that the edit names, or one so many below it, is past the last.
+fn past_rows(before: &Stage, whole: &Whole, below: usize) -> bool {
+    let rows = row_lengths(before.state.text()).len();
+    whole.edit.start.row as usize + below >= rows
+}
+
+/// A row ends within the chunk that goes.
+fn chunk_past_row(before: &Stage, whole: &Whole, _: &Stage) -> bool {
+    let start = whole.edit.start;
+    let lengths = row_lengths(before.state.text());
+    let rows = lengths.iter().skip(start.row as usize);
+    let mut cuts = rows.zip(&whole.first);
+    whole.edit.kind == DELETE_BLOCK_CHUNKS
+        && cuts.any(|(length, width)| {
+            let ends_within = start.col + 1..start.col + width;
+            ends_within.contains(&(*length as u32))
+        })
 }
 
 fn surplus_pad(_: &Stage, whole: &Whole, _: &Stage) -> bool {

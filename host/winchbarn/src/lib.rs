@@ -313,9 +313,9 @@ pub fn box_fit(
 
 /// Where a position goes when the edit is made to the view's text; the pads of [`Kind::DeleteBlockChunks`] are left out of
 /// account. `None` for [`Kind::SplitLines`], over which nothing is followed, and for no other kind. Over an accepted edit whose
-/// places are in the text, other than SplitLines and DeleteBlockChunks with a pad above 0, the position of a character that stays,
-/// not a line feed, is where it stands afterwards; blocks, joins and deletes of rows may name any place. Refuses by 1, 2, 3, 4, 6.
-/// Stack: [`stack::SHIFT_POSITION`].
+/// ends are in order and whose places are in the text, other than SplitLines and DeleteBlockChunks with a pad above 0, what is
+/// answered for the place of a character that stays, not a line feed, is where it stands afterwards; blocks, joins and deletes of
+/// rows may name any place. Refuses by 1, 2, 3, 4, 6. Stack: [`stack::SHIFT_POSITION`].
 pub fn shift_position(
     text: &[u32],
     view: View,
