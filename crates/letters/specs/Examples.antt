@@ -23,7 +23,7 @@ use Rattle.letters.specs.Keeps.{KeepsRun, shiftedOver}
 use Rattle.letters.specs.Theorems.{Letter, Landed, LandedRun}
 use Rattle.letters.specs.Calls.{KeepingCall, FollowedTo, NeverPass}
 
--- Of "ab/cd": a break before b; Y before c, in a row that was not there; c's row onto b's, count 0; a join of a row past the last; blanks before Z in the first row, and a
+-- Of "ab/cd": a break before b; Y before c, in a row that was not there; c's row onto b's, count 0; a join of a row past the last; a blank before Z in the first row, and a
 -- chunk for a row that is not there; a column out again, with a width for that row and a pad behind the last width; a chunk past its row's end; a block named from its lower end,
 -- past the last row; what is behind b replaced; the break out again; a row in front, and gone; a row behind, and gone with rows past the last
 abbrev pub sampleEdits : List (Whole ℕ)
