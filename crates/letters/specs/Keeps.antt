@@ -17,8 +17,9 @@ use Rattle.shift.specs.Theorems.{FollowsRange}
 use Rattle.origins.specs.Theorems.{editedText}
 
 -- "not SplitLines and not a DeleteBlockChunks with a pad above 0, whose ends are in order; every position it names is in the text, except
--- that a block edit may reach past row ends or the last row and a join's row may too". `FollowsRange` of `shift` asks just that of a deleted range: of Char both
--- ends in the text and in order; of Line, which names rows alone, the rows in order, be they past the last; of Block nothing. A pad behind the last width is none.
+-- that a block edit may reach past row ends or the last row and a join's row may too". `FollowsRange` of `shift` is what is asked of a deleted range: of Char
+-- both ends in the text and in order; of Line, which names rows alone, the rows in order, and less than the words have it, since they may lie past the last; of Block nothing. A pad behind the last
+-- width is none.
 -- The edit, with its first and its second list:
 abbrev pub Keeps : List ℕ → Edit → List ℕ → List ℕ → Type 0
 Keeps t (InsertChar q) f s = Stands t q
