@@ -1,5 +1,7 @@
 // Where a position lands after each edit, by the original's functions: the definitions, their laws, and the function for joins. The text is the
 // one before the edit.
+#![tactic(auto)]
+
 ghost use Rattle.std.specs.Prelude.{◌≡◌, suc, ◌+◌, ◌-◌, ◌≤◌, ◌<◌, min, max, length, drop, get_or};
 ghost use Rattle.text.specs.Rows.{lines, last_row, row_len};
 ghost use Rattle.text.specs.Text.{is_lf, text_limit};

@@ -1,4 +1,6 @@
 // Shifts over edits of blocks.
+#![tactic(auto)]
+
 ghost use Rattle.std.specs.Prelude.{◌≡◌, ◌≤◌, T};
 ghost use Rattle.text.specs.Text.{all};
 ghost use Rattle.edit.specs.Refusals.{small};

@@ -1,4 +1,6 @@
 // Shifts over insertions and over Char and Line deletes.
+#![tactic(auto)]
+
 ghost use Rattle.std.specs.Prelude.{true, ◌≡◌, ◌≤◌, length};
 ghost use Rattle.text.specs.Rows.{upto};
 ghost use Rattle.text.specs.Text.{text_limit};

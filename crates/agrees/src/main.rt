@@ -1,6 +1,8 @@
 // Replays edits. Standard input has lines of script frames, a text and below it an edit of that text. For each edit this prints what it
 // answers and leaves: the cursor and the change counter in decimal, the inverse's line, and the line of the text; or the refusal's number.
 // A line that is empty or starts with # is passed over.
+#![tactic(auto)]
+
 use edit::{Answer, Applied, View};
 use framed::apply_frame;
 use libc::{STDIN_FILENO, STDOUT_FILENO};

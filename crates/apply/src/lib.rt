@@ -1,4 +1,6 @@
 // An edit, whole: judged, and then done by the worker of its kind.
+#![tactic(auto)]
+
 ghost use Rattle.std.specs.Prelude.{◌≡◌};
 ghost use Rattle.promise.specs.Paper.{done};
 ghost use Rattle.edit.specs.Call.{verdict_of, lent, given_tests, Promised};

@@ -4,7 +4,7 @@ use mathlib.Core.List.{flatten}
 use Rattle.frame.specs.Forms.{form_by, head_of, insert_form, line_form, mark_form}
 use Rattle.frame.specs.Numbers.{number_in}
 use Rattle.frame.specs.Reads.{ahead, contents, edit_of, first_list}
-use Rattle.hex.specs.Digits.{digit_of, hexed, is_digit, paired, unhexed, value_of}
+use Rattle.hexline.specs.Digits.{digit_of, hexed, is_digit, paired, unhexed, value_of}
 use Rattle.reader.specs.Calls.{chars_into, frame_into, read_into}
 use Rattle.text.specs.Text.{all}
 use Rattle.utf8.specs.Calls.{stored}

@@ -5,7 +5,7 @@ use Rattle.promise.specs.Paper.{done, refused}
 use Rattle.utf8.specs.Calls.{outcome}
 use Rattle.text.specs.Rows.{at}
 use Rattle.select.specs.Sels.{sel}
-use Rattle.hex.specs.Digits.{hexed}
+use Rattle.hexline.specs.Digits.{hexed}
 use Rattle.edit.specs.declared.Edit.TheVariants.{InsertStr}
 use Rattle.frame.specs.Numbers.{number}
 use Rattle.frame.specs.Forms.{line_form, head_of}

@@ -1,4 +1,6 @@
 // A line read as the frame that is asked for: a text, a mark or an edit. A line that is another frame is refused by 10, and writes nothing.
+#![tactic(auto)]
+
 ghost use Rattle.std.specs.Prelude.{◌≡◌};
 ghost use Rattle.utf8.specs.Calls.{outcome};
 ghost use Rattle.frame.specs.Forms.{head_of, line_form};
@@ -12,20 +14,20 @@ use reader::{FrameRead, read};
 use select::Sel;
 
 // How many characters a text has, or the refusal.
-#[derive(Drop)]
+#[derive(Clone, Copy)]
 pub enum TextRead {
     Chars(usize),
     Refused(Refusal),
 }
 
-#[derive(Drop)]
+#[derive(Clone, Copy)]
 pub enum MarkRead {
     Mark(Sel),
     BadFrame,
 }
 
 // An edit, with how much of the payload's and the lists' slices it takes; or the refusal.
-#[derive(Drop)]
+#[derive(Clone, Copy)]
 pub enum EditRead {
     Edit {
         edit: Edit,

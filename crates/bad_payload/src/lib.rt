@@ -1,4 +1,6 @@
 // Refusal 4: payloads that an edit cannot put in.
+#![tactic(auto)]
+
 ghost use Rattle.std.specs.Prelude.{not, ◌≡◌, eqb};
 ghost use Rattle.text.specs.Text.{is_lf, all};
 ghost use Rattle.edit.specs.Refusals.{sum, payload_ok};

@@ -1,4 +1,6 @@
 // The worker for InsertBlock: a chunk goes into each row that there is, from a row on.
+#![tactic(auto)]
+
 ghost use Rattle.std.specs.Prelude.{◌≡◌, true, not, List, ℕ, ◌+◌, ◌-◌, ◌≤◌, min, T, length, take};
 ghost use Rattle.text.specs.Rows.{row_count, last_row, row_start};
 ghost use Rattle.text.specs.Text.{is_lf, text_limit, all};
@@ -11,7 +13,7 @@ use edit::{Answer, Applied, Edit, Plan, Room, Verdict, View};
 use text::{CharOffset, Position, Row};
 
 // Where a chunk goes into a row, how many spaces come before it, and where the row ends.
-#[derive(Drop)]
+#[derive(Clone, Copy)]
 struct Put {
     at: CharOffset,
     pad: u32,
@@ -20,7 +22,7 @@ struct Put {
 
 // How long the text is once the chunks are in, and where in the text as it is the first row that gets one starts and the
 // last ends; where none gets one, the text's end.
-#[derive(Drop)]
+#[derive(Clone, Copy)]
 struct Extent {
     size: usize,
     start: CharOffset,

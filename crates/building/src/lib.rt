@@ -1,4 +1,6 @@
 // The steps of a block insertion, row by row, and what the builders of steps for other edits of rows share with it.
+#![tactic(auto)]
+
 ghost use mathlib.Core.Path.{◌≡◌};
 ghost use mathlib.Core.List.{List};
 ghost use Prim.Native.Nat.{ℕ, ◌+◌, ◌-◌, ◌*◌, ◌≤◌, min};

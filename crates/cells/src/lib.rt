@@ -1,4 +1,6 @@
 // How many cells a character takes.
+#![tactic(auto)]
+
 ghost use Rattle.std.specs.Prelude.{true, ◌≡◌, ◌≤◌};
 ghost use Rattle.cells.specs.Wide.{ascends, edges, ranges, count_up_to};
 ghost use Rattle.cells.specs.Cells.{tab_stop, cell_after, near_after};
@@ -36,7 +38,7 @@ const WIDE: [u32; 242] = [
 ];
 
 // The cell after a character, and how many numbers of the table are at most the last character that was searched for.
-#[derive(Drop)]
+#[derive(Clone, Copy)]
 pub struct Ended {
     pub cell: u32,
     pub near: usize,

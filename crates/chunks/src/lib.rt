@@ -1,4 +1,6 @@
 // The workers for DeleteBlockChunks and for a Block delete: from a row on, a chunk goes from each row that there is.
+#![tactic(auto)]
+
 ghost use Rattle.std.specs.Prelude.{◌≡◌, true, List, ℕ, ◌+◌, ◌-◌, ◌≤◌, min, length, take, get_or};
 ghost use Rattle.std.proofs.Math.Seq.{paste, slice};
 ghost use Rattle.text.specs.Rows.{row_count, last_row, row_start};
@@ -14,7 +16,7 @@ use edit::{Answer, Applied, Edit, Plan, Room, Verdict, View, extent};
 use text::{CharOffset, Col, Position, Row};
 
 // Where a row's cut begins, where the chunk begins in it, behind the padding, where both end, and where the row ends.
-#[derive(Drop)]
+#[derive(Clone, Copy)]
 struct Cut {
     from: CharOffset,
     chunk: CharOffset,
@@ -24,7 +26,7 @@ struct Cut {
 
 // How long the text will be, how long all chunks are together, where the first row of the block starts and where the last row that
 // is cut ends; with no such row, where the text ends.
-#[derive(Drop)]
+#[derive(Clone, Copy)]
 struct Sizes {
     used: usize,
     payload: usize,

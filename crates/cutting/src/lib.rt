@@ -1,4 +1,6 @@
 // The steps of chunk deletions, row by row.
+#![tactic(auto)]
+
 ghost use mathlib.Core.Path.{◌≡◌};
 ghost use mathlib.Core.List.{List};
 ghost use Prim.Native.Nat.{ℕ, ◌+◌, ◌-◌, ◌*◌, ◌≤◌, min};
@@ -15,7 +17,7 @@ use steps::put_step;
 use text::{Col, Row};
 
 // A row's cut: where it begins, where the chunk in it does, and where both end.
-#[derive(Drop)]
+#[derive(Clone, Copy)]
 struct RowCut {
     from: u32,
     chunk: u32,

@@ -1,5 +1,7 @@
 // The port's types: a view, an edit with its numbers, and the answer to one. The text, the payload and the lists of an edit
 // are lent beside them as slices.
+#![tactic(auto)]
+
 ghost use Rattle.std.specs.Prelude.{◌≡◌, suc, ◌-◌, min, max};
 ghost use Rattle.edit.specs.Call.{number_of};
 
@@ -8,7 +10,7 @@ use utf8::ByteOffset;
 
 // A text's used length in its buffer, the cursor, and how many edits were accepted, modulo 2^64.
 #[repr(C)]
-#[derive(Drop)]
+#[derive(Clone, Copy)]
 pub struct View {
     pub used: usize,
     pub cursor: Position,
@@ -39,7 +41,7 @@ pub fn extent(a: u32, b: u32) -> usize
     }
 }
 
-#[derive(Drop)]
+#[derive(Clone, Copy)]
 pub enum MotionKind {
     Char,
     Line,
@@ -49,7 +51,7 @@ pub enum MotionKind {
 // Beside it a payload and two lists are lent: the payload is what InsertChar, InsertStr and Replace put in, and InsertBlock's
 // chunks one after another; the first list is InsertBlock's chunk lengths, SplitLines' columns or DeleteBlockChunks' widths;
 // the second is SplitLines' flags or DeleteBlockChunks' pads.
-#[derive(Drop)]
+#[derive(Clone, Copy)]
 pub enum Edit {
     InsertChar {
         at: Position,
@@ -82,7 +84,7 @@ pub enum Edit {
     },
 }
 
-#[derive(Drop)]
+#[derive(Clone, Copy)]
 pub enum Refusal {
     BadText,
     TooBig,
@@ -117,14 +119,14 @@ impl Refusal {
 }
 
 // Nothing is refused, or what is.
-#[derive(Drop)]
+#[derive(Clone, Copy)]
 pub enum Verdict {
     Fine,
     Bad(Refusal),
 }
 
 // How long the lent slices are: the text's buffer, and the slices for the inverse's payload and its two lists.
-#[derive(Drop)]
+#[derive(Clone, Copy)]
 pub struct Room {
     pub buffer: usize,
     pub payload: usize,
@@ -133,7 +135,7 @@ pub struct Room {
 }
 
 // How long the text will be, and the inverse's payload and lists.
-#[derive(Drop)]
+#[derive(Clone, Copy)]
 pub struct Plan {
     pub used: usize,
     pub payload: usize,
@@ -142,7 +144,7 @@ pub struct Plan {
 }
 
 // The view after an edit, the inverse, and how much of the inverse's slices was written.
-#[derive(Drop)]
+#[derive(Clone, Copy)]
 pub struct Applied {
     pub view: View,
     pub inverse: Edit,
@@ -151,7 +153,7 @@ pub struct Applied {
     pub second: usize,
 }
 
-#[derive(Drop)]
+#[derive(Clone, Copy)]
 pub enum Answer {
     Done(Applied),
     Refused(Refusal),

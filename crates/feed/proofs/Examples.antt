@@ -5,7 +5,7 @@ use Rattle.utf8.specs.Rfc3629.{begins, number, octets, scalar, taken}
 use Rattle.utf8.specs.Reading.{prepend, read_from, writing}
 use Rattle.text.specs.Rows.{lines, onto}
 use Rattle.text.specs.Text.{admissible, all}
-use Rattle.hex.specs.Digits.{digit_of, hexed, is_digit, paired, unhexed, value_of}
+use Rattle.hexline.specs.Digits.{digit_of, hexed, is_digit, paired, unhexed, value_of}
 use Rattle.frame.specs.Format.{frame_bytes}
 use Rattle.frame.specs.Forms.{form_by, line_form}
 use Rattle.frame.specs.Reads.{ahead, contents, read_form, text_of}

@@ -11,7 +11,7 @@ use lib.Seq.{take_all, take-take, take-append-le, append_snoc}
 use Rattle.text.specs.Rows.{row_len}
 use Rattle.text.specs.Text.{is_lf}
 use Rattle.text.proofs.Laws.{len_lf, len_other}
-use Rattle.hex.specs.Digits.{digit_limit}
+use Rattle.hexline.specs.Digits.{digit_limit}
 use Rattle.frame.specs.Forms.{malformed, line_form}
 use Rattle.frame.specs.Reads.{read_form}
 use Rattle.place.specs.Places.{placed, seen}

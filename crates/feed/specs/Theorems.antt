@@ -1,7 +1,7 @@
 -- What is proved beside that the code meets its promises. The proofs stand in proofs/Theorems.antt.
 use mathlib.Core.List.{List, [], ◌++◌, flatten}
 use Rattle.std.specs.Prelude.{◌≡◌, ℕ, ◌<◌, length}
-use Rattle.hex.specs.Digits.{digit_limit}
+use Rattle.hexline.specs.Digits.{digit_limit}
 use Rattle.loading.specs.States.{State, opening}
 use Rattle.step.specs.Steps.{step}
 use Rattle.feed.specs.Scripts.{output}

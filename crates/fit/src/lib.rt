@@ -1,4 +1,6 @@
 // The box test.
+#![tactic(auto)]
+
 ghost use Rattle.std.specs.Prelude.{◌≡◌, ◌≤◌, length};
 ghost use Rattle.promise.specs.Paper.{done};
 ghost use Rattle.text.specs.Rows.{lines};
@@ -11,7 +13,7 @@ use text::{Col, LF, Position, Row, is_text};
 use too_big::NUMBER_LIMIT;
 
 // Whether every row fits a box, or where the first that does not leaves it.
-#[derive(Drop)]
+#[derive(Clone, Copy)]
 pub enum BoxFit {
     AllFit,
     Leaves(Position),

@@ -1,4 +1,6 @@
 // The flat edits: those that cut one stretch of the text, or put a payload in at one place, or both. The callers have judged rows 1 to 4.
+#![tactic(auto)]
+
 mod cuts;
 
 ghost use Rattle.std.specs.Prelude.{◌≡◌, true, List, ℕ, ◌≤◌, length, take};
@@ -14,14 +16,14 @@ use splice::{close_gap, open_gap};
 use text::{CharOffset, Col, Position, Row};
 
 // What is cut stands from `start` up to `end`.
-#[derive(Drop)]
+#[derive(Clone, Copy)]
 pub struct Cut {
     pub start: CharOffset,
     pub end: CharOffset,
 }
 
 // A cut of whole rows: the first of them, and the place where their text goes back in.
-#[derive(Drop)]
+#[derive(Clone, Copy)]
 pub struct LineCut {
     pub lo: Row,
     pub back: Position,

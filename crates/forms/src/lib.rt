@@ -1,4 +1,6 @@
 // The form of each kind of frame. The bytes are the whole line's.
+#![tactic(auto)]
+
 ghost use Rattle.std.specs.Prelude.{◌≡◌};
 ghost use Rattle.frame.specs.Forms.{head_of, mark_form, insert_form, kind_form, delete_form, join_form, flagged, split_form, replace_form, strings_in, is_cut, block_form, chunks_form, form_by, form_of};
 

@@ -18,7 +18,7 @@ use Rattle.edit.specs.declared.Edit.TheVariants.{InsertChar, InsertStr, DeleteRa
 use Rattle.edit.specs.Edits.{pieces}
 use Rattle.edit.specs.Refusals.{sum}
 use Rattle.edit.proofs.Blocks.{flatten_pieces}
-use Rattle.hex.specs.Theorems.{Bytes}
+use Rattle.hexline.specs.Theorems.{Bytes}
 use Rattle.frame.specs.Numbers.{number, position}
 use Rattle.frame.specs.Format.{Frame, text, mark, edit, kind_byte, flag_byte, column_bytes, width_bytes, chunk_bytes, edit_bytes, frame_bytes, has_bytes, has_frame, edit_chars, frame_chars}
 use Rattle.frame.specs.Theorems.{word, word_position, word_edit, words}

@@ -9,8 +9,8 @@ use lib.ListN.{length}
 use Rattle.promise.specs.Paper.{done, refused}
 use Rattle.promise.proofs.Bools.{both}
 use Rattle.text.proofs.Ended.{Plain}
-use Rattle.hex.specs.Digits.{digit_limit, unhexed, paired, line_ok}
-use Rattle.hex.proofs.Breaks.{paired-plain}
+use Rattle.hexline.specs.Digits.{digit_limit, unhexed, paired, line_ok}
+use Rattle.hexline.proofs.Breaks.{paired-plain}
 use Rattle.frame.specs.Format.{Frame}
 use Rattle.frame.specs.Forms.{malformed, form_of, line_form}
 use Rattle.frame.specs.Reads.{read_form, frame_read}

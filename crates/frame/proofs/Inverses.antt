@@ -23,8 +23,8 @@ use Rattle.edit.specs.Call.{Lent, text_of, result_of, room_of}
 use Rattle.edit.proofs.Blocks.{small-both}
 use Rattle.edit.proofs.Fits.{inverse_fits}
 use Rattle.edit.proofs.Workers.{Fits, Passed, accepted}
-use Rattle.hex.specs.Digits.{hexed}
-use Rattle.hex.proofs.Theorems.{two_digits}
+use Rattle.hexline.specs.Digits.{hexed}
+use Rattle.hexline.proofs.Theorems.{two_digits}
 use Rattle.frame.specs.Format.{Frame, text, mark, edit, frame_bytes, has_frame, edit_chars, frame_chars}
 use Rattle.frame.specs.Writes.{line_of}
 use Rattle.frame.specs.Theorems.{used_of, word, word_edit, words}

@@ -9,11 +9,11 @@ use lib.ListN.{length, take, drop, length-append}
 use lib.Seq.{take-append_seam}
 use Rattle.promise.specs.Slices.{over}
 use Rattle.utf8.specs.Calls.{Outcome, outcome}
-use Rattle.hex.specs.declared.Unhexed.{Unhexed}
-use Rattle.hex.specs.declared.Unhexed.TheVariants.{Octets, BadFrame, NoRoom}
-use Rattle.hex.specs.Digits.{digit_limit, unhexed, line_ok}
-use Rattle.hex.specs.Calls.{paper_unhexed, bytes_into}
-use Rattle.hex.proofs.Told.{told_bytes, told_bad, told_full}
+use Rattle.hexline.specs.declared.Unhexed.{Unhexed}
+use Rattle.hexline.specs.declared.Unhexed.TheVariants.{Octets, BadFrame, NoRoom}
+use Rattle.hexline.specs.Digits.{digit_limit, unhexed, line_ok}
+use Rattle.hexline.specs.Calls.{paper_unhexed, bytes_into}
+use Rattle.hexline.proofs.Told.{told_bytes, told_bad, told_full}
 use Rattle.frame.specs.Forms.{malformed, form_of, line_form}
 
 -- u is the answer to the line l, and o what is then in the slice

@@ -11,7 +11,7 @@ use lib.Seq.{drop-cons}
 use Rattle.promise.proofs.Bools.{both}
 use Rattle.text.specs.Text.{all}
 use Rattle.text.proofs.Alls.{first_passes}
-use Rattle.hex.specs.Theorems.{Bytes}
+use Rattle.hexline.specs.Theorems.{Bytes}
 use Rattle.frame.specs.Numbers.{number, number_in, items}
 use Rattle.frame.specs.Format.{column_bytes, width_bytes}
 use Rattle.frame.specs.Forms.{columns_in, flags_in, widths_in, pads_in}

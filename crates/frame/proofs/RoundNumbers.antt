@@ -12,7 +12,7 @@ use lib.Seq.{drop-drop}
 use Rattle.promise.proofs.Bools.{both, both_true, T_true}
 use Rattle.text.specs.Text.{all}
 use Rattle.text.proofs.Alls.{all_append, all_drop}
-use Rattle.hex.specs.Theorems.{Bytes}
+use Rattle.hexline.specs.Theorems.{Bytes}
 use Rattle.frame.specs.Numbers.{number, number_in}
 use Rattle.frame.specs.Theorems.{word}
 use Rattle.frame.proofs.Fours.{number-front}

@@ -15,7 +15,7 @@ use Rattle.utf8.specs.Reading.{Reading, scalars, bad_at, reading, all_scalar, wr
 use Rattle.utf8.proofs.Numbers.{scalar-le, at_most, octets-1, octets-2, octets-3, octets-4}
 use Rattle.utf8.proofs.Parts.{scalars_append}
 use Rattle.utf8.proofs.Theorems.{reads_written, writes_read}
-use Rattle.hex.specs.Theorems.{Bytes}
+use Rattle.hexline.specs.Theorems.{Bytes}
 use Rattle.frame.specs.Numbers.{number, number_in}
 use Rattle.frame.specs.Format.{chunk_bytes}
 use Rattle.frame.specs.Forms.{Cut, broken, cut, before, strings_from, strings_in}

@@ -10,8 +10,8 @@ use lib.ListN.{length}
 use Rattle.promise.specs.Paper.{done, refused}
 use Rattle.promise.proofs.Bools.{both}
 use Rattle.utf8.specs.Reading.{all_scalar}
-use Rattle.hex.specs.Digits.{digit_limit, hexed, unhexed, paired, line_ok}
-use Rattle.hex.proofs.Theorems.{unhexes_hexed, hexes_unhexed, two_digits}
+use Rattle.hexline.specs.Digits.{digit_limit, hexed, unhexed, paired, line_ok}
+use Rattle.hexline.proofs.Theorems.{unhexes_hexed, hexes_unhexed, two_digits}
 use Rattle.frame.specs.Format.{Frame, frame_bytes, has_frame, frame_chars}
 use Rattle.frame.specs.Forms.{malformed, form_of, line_form}
 use Rattle.frame.specs.Reads.{read_form, frame_read}

@@ -20,7 +20,7 @@ use Rattle.edit.specs.declared.Edit.TheVariants.{DeleteRange, JoinLines, SplitLi
 use Rattle.edit.specs.Edits.{whole, pieces, row_at}
 use Rattle.edit.proofs.Blocks.{pieces-flatten, sum-lengths}
 use Rattle.select.specs.Sels.{sel}
-use Rattle.hex.specs.Theorems.{Bytes}
+use Rattle.hexline.specs.Theorems.{Bytes}
 use Rattle.frame.specs.Numbers.{number, position, number_in, position_in}
 use Rattle.frame.specs.Format.{Frame, kind_byte, flag_byte, chunk_bytes, edit_bytes, frame_bytes, has_bytes, has_frame, edit_chars, frame_chars}
 use Rattle.frame.specs.Format as format

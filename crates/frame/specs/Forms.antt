@@ -9,7 +9,7 @@ use Rattle.edit.specs.declared.Edit.TheVariants.{InsertStr, DeleteRange, JoinLin
 use Rattle.edit.specs.Edits.{row_at}
 use Rattle.select.specs.declared.Sel.{Sel}
 use Rattle.select.specs.Sels.{sel}
-use Rattle.hex.specs.Digits.{unhexed, line_ok}
+use Rattle.hexline.specs.Digits.{unhexed, line_ok}
 use Rattle.frame.specs.declared.Head.{Head}
 use Rattle.frame.specs.declared.Head.TheVariants as as_head
 use Rattle.frame.specs.Numbers.{number_in, position_in, items}

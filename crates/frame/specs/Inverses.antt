@@ -8,7 +8,7 @@ use Rattle.edit.specs.declared.Edit.{Edit}
 use Rattle.edit.specs.declared.Applied.{Applied}
 use Rattle.edit.specs.Call.{Lent, result_of, applied}
 use Rattle.select.specs.declared.Sel.{Sel}
-use Rattle.hex.specs.Digits.{hexed}
+use Rattle.hexline.specs.Digits.{hexed}
 use Rattle.frame.specs.Format.{Frame, text, mark, edit, frame_bytes}
 use Rattle.frame.specs.Writes.{line_of}
 use Rattle.frame.specs.Theorems.{used_of, words}

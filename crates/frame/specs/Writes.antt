@@ -2,7 +2,7 @@
 use Rattle.std.specs.Prelude.{cond, List, ℕ, leb, length}
 use Rattle.promise.specs.Paper.{Paper, done, refused}
 use Rattle.utf8.specs.Reading.{all_scalar}
-use Rattle.hex.specs.Digits.{digit_limit, hexed}
+use Rattle.hexline.specs.Digits.{digit_limit, hexed}
 use Rattle.frame.specs.Format.{Frame, frame_bytes, has_frame, frame_chars}
 
 -- 10 for an edit that has no frame, then 1: "from the writer, 1 means a value that is none", then 8 for a line of more than

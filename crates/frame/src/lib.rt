@@ -1,4 +1,6 @@
 // Script frames: what the bytes of a line are by their form, before their UTF-8 is read.
+#![tactic(auto)]
+
 mod numbers;
 
 use edit::Edit;
@@ -15,7 +17,7 @@ pub const SHORT_LINE: usize = 512;
 pub const SHORT_BYTES: usize = 256;
 
 // A frame's kind with its numbers.
-#[derive(Drop)]
+#[derive(Clone, Copy)]
 pub enum Head {
     Malformed,
     Text,

@@ -1,4 +1,6 @@
 // Which edits have a frame, and how many bytes it takes.
+#![tactic(auto)]
+
 ghost use Rattle.std.specs.Prelude.{◌≡◌, min, leb};
 ghost use Rattle.text.specs.Text.{all};
 ghost use Rattle.utf8.specs.Answers.{paper_octet_count};

@@ -8,7 +8,7 @@ use Rattle.frame.specs.Forms.{before, block_form, block_of, chunks_form, columns
 use Rattle.frame.specs.Numbers.{items, number_in}
 use Rattle.frame.specs.Reads.{ahead, contents, edit_of, first_list, read_form, text_of}
 use Rattle.framed.specs.Calls.{frame_applied}
-use Rattle.hex.specs.Digits.{digit_of, hexed, is_digit, paired, unhexed, value_of}
+use Rattle.hexline.specs.Digits.{digit_of, hexed, is_digit, paired, unhexed, value_of}
 use Rattle.place.specs.Places.{placed}
 use Rattle.text.specs.Rows.{clamp, end_of, in_text, last_row, lines, offset, onto, row_count, row_len, row_start, unlines}
 use Rattle.text.specs.Text.{admissible, all, renewed, text_ok}

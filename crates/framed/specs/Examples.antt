@@ -3,7 +3,7 @@
 use Rattle.std.specs.Prelude.{◌≡◌, [], ◌∷◌, replicate}
 use Rattle.promise.specs.Paper.{refused}
 use Rattle.text.specs.Rows.{at}
-use Rattle.hex.specs.Digits.{hexed}
+use Rattle.hexline.specs.Digits.{hexed}
 use Rattle.edit.specs.Call.{outcome}
 use Rattle.framed.specs.Calls.{line_applied}
 

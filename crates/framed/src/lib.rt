@@ -1,4 +1,6 @@
 // An edit that a script's line is, applied to a text.
+#![tactic(auto)]
+
 ghost use Rattle.std.specs.Prelude.{◌≡◌};
 ghost use Rattle.edit.specs.declared.Edit.{Edit as AnEdit};
 ghost use Rattle.edit.specs.Call.{paper_answer, outcome};

@@ -3,6 +3,8 @@
 //     < a line that it prints      = the end: the script is run
 // A line is made of words, put together: digits as they stand, WORD*COUNT for a word so many times over, and ~ before two digits for the byte
 // of that number. One that is empty or starts with # is passed over.
+#![tactic(auto)]
+
 mod words;
 
 ghost use Rattle.std.specs.Prelude.{◌≤◌, length};
@@ -15,7 +17,7 @@ use script::{Ran, run_script};
 const ROOM: usize = 131_072;
 
 // How much of a script and of its output stands written, and how many scripts were run and printed it.
-#[derive(Drop)]
+#[derive(Clone, Copy)]
 struct Tally {
     script: usize,
     output: usize,

@@ -1,4 +1,6 @@
 // Refusals 1 to 4: what is judged of an edit before anything is done.
+#![tactic(auto)]
+
 ghost use Rattle.std.specs.Prelude.{List, ◌≡◌, ℕ, ◌≤◌, length};
 ghost use Rattle.text.specs.Text.{text_limit};
 ghost use Rattle.edit.specs.Refusals.{small_ok, few_ok, payload_ok};

@@ -1,4 +1,6 @@
 // The steps of joins, row by row.
+#![tactic(auto)]
+
 ghost use mathlib.Core.Path.{◌≡◌};
 ghost use mathlib.Core.Bool.{cond, ◌&&◌};
 ghost use mathlib.Core.List.{List};

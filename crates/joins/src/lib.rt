@@ -1,4 +1,6 @@
 // The workers for JoinLines and SplitLines. Each finds what comes of its edit first, and stores once nothing refuses it.
+#![tactic(auto)]
+
 mod joining;
 mod splitting;
 
@@ -12,28 +14,28 @@ pub use splitting::split;
 use text::CharOffset;
 
 // What a join puts in place of an LF, and how long the row is that it adds.
-#[derive(Drop)]
+#[derive(Clone, Copy)]
 pub struct JoinTurn {
     pub gap: usize,
     pub len: usize,
 }
 
 // Where the last row that is joined ends, and what rows 8 and 9 are about.
-#[derive(Drop)]
+#[derive(Clone, Copy)]
 struct JoinPlan {
     end: CharOffset,
     sizes: Plan,
 }
 
 // Where a split puts its LF, and how many characters go there.
-#[derive(Drop)]
+#[derive(Clone, Copy)]
 struct SplitTurn {
     at: CharOffset,
     gone: usize,
 }
 
 // Whether every column with a flag is within its row, and what rows 8 and 9 are about.
-#[derive(Drop)]
+#[derive(Clone, Copy)]
 struct SplitPlan {
     within: bool,
     sizes: Plan,

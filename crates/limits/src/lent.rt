@@ -3,7 +3,7 @@ use edit::{Answer, Edit, View};
 use thin::apply_edit_in;
 
 // What was answered, and the view as it then stands.
-#[derive(Drop)]
+#[derive(Clone, Copy)]
 pub(crate) struct Stood {
     pub(crate) answer: Answer,
     pub(crate) view: View,

@@ -15,6 +15,8 @@
 // Printed are the refusal's number and whether anything changed; or the view that was lent, the inverse's kind and how much was recorded,
 // in decimal, then in hexadecimal what the text and the record hold where they are short, and last, in decimal, the
 // inverse's own numbers and a checksum of all that was lent to be written.
+#![tactic(auto)]
+
 mod lent;
 mod show;
 mod trial;

@@ -1,4 +1,6 @@
 // How a program takes its input apart: lines, and the hexadecimal numbers of a line.
+#![tactic(auto)]
+
 mod numbers;
 mod part;
 

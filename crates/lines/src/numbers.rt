@@ -2,13 +2,13 @@ ghost use Rattle.std.specs.Prelude.{◌≤◌, ◌<◌, ◌≡◌, length};
 
 use crate::part::part_at;
 
-#[derive(Drop)]
+#[derive(Clone, Copy)]
 enum Word {
     Number(u32),
     Malformed,
 }
 
-#[derive(Drop)]
+#[derive(Clone, Copy)]
 pub struct Numbers {
     pub well_formed: bool,
     pub count: usize,

@@ -1,7 +1,7 @@
 ghost use Rattle.std.specs.Prelude.{◌≤◌, ◌<◌, length};
 
 // Where a part of a text ends, and where the next one starts.
-#[derive(Drop)]
+#[derive(Clone, Copy)]
 pub struct Part {
     pub end: usize,
     pub next: usize,

@@ -1,6 +1,6 @@
 -- The examples, computed.
 use mathlib.Core.Path.{refl}
-use Rattle.hex.specs.Digits.{digit_of, hexed}
+use Rattle.hexline.specs.Digits.{digit_of, hexed}
 use Rattle.loading.specs.Loads.{framed_by, loaded}
 use Rattle.text.specs.Text.{admissible, all}
 use Rattle.utf8.specs.Rfc3629.{scalar}

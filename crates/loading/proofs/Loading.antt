@@ -15,7 +15,7 @@ use Rattle.edit.specs.declared.View.{View}
 use Rattle.edit.specs.Edits.{Whole}
 use Rattle.select.specs.declared.Sel.{Sel}
 use Rattle.shift.specs.Answers.{Followed}
-use Rattle.hex.specs.Digits.{hexed}
+use Rattle.hexline.specs.Digits.{hexed}
 use Rattle.frame.specs.Format.{Frame, text}
 use Rattle.printing.specs.Prints.{printed_as}
 use Rattle.loading.specs.declared.Script.{Script}

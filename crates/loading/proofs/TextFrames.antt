@@ -14,8 +14,8 @@ use Rattle.promise.specs.Slices.{over}
 use Rattle.promise.proofs.Bools.{both}
 use Rattle.utf8.specs.Reading.{Reading, scalars, bad_at, reading}
 use Rattle.utf8.specs.Calls.{scalars_of}
-use Rattle.hex.specs.Digits.{digit_limit, unhexed, paired, line_ok}
-use Rattle.hex.proofs.Pairs.{unhexed-length}
+use Rattle.hexline.specs.Digits.{digit_limit, unhexed, paired, line_ok}
+use Rattle.hexline.proofs.Pairs.{unhexed-length}
 use Rattle.frame.specs.declared.Head.TheVariants as as_head
 use Rattle.frame.specs.Format.{Frame}
 use Rattle.frame.specs.Format as format

@@ -16,7 +16,7 @@ use Rattle.joins.specs.Turns.{gap_len}
 use Rattle.after.specs.After.{after_insert, after_delete_char, start_cols, after_join}
 use Rattle.shift.specs.Kinds.{shifted}
 use Rattle.shift.specs.Call.{ordered_range, ordered_ok, position_shifted, sel_shifted}
-use Rattle.hex.specs.Digits.{is_digit, value_of, digit_of, hexed, unhexed, paired}
+use Rattle.hexline.specs.Digits.{is_digit, value_of, digit_of, hexed, unhexed, paired}
 use Rattle.frame.specs.Numbers.{number_in}
 use Rattle.frame.specs.Format.{edit_bytes, frame_bytes}
 use Rattle.frame.specs.Forms.{mark_form, insert_form, form_by, line_form}

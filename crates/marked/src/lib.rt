@@ -1,1 +1,2 @@
 // Document 01's marked examples: nothing to run, one table to prove.
+#![tactic(auto)]

@@ -3,7 +3,7 @@ use mathlib.Core.Path.{refl}
 use Rattle.after.specs.After.{after_delete_block, after_delete_block_chunks, after_delete_char, after_delete_lines, after_insert, after_insert_block, after_join, start_cols}
 use Rattle.edit.specs.Edits.{pieces}
 use Rattle.frame.specs.Format.{chunk_bytes, column_bytes, edit_bytes, frame_bytes, width_bytes}
-use Rattle.hex.specs.Digits.{digit_of, hexed}
+use Rattle.hexline.specs.Digits.{digit_of, hexed}
 use Rattle.joins.specs.Turns.{gap_len}
 use Rattle.marking.specs.Carries.{carried_mark}
 use Rattle.marking.specs.FlatMarks.{flat_mark, flat_marks, mark_in, marks_in}

@@ -10,8 +10,8 @@ use Rattle.text.specs.Rows.{at}
 use Rattle.select.specs.declared.Sel.{Sel}
 use Rattle.select.specs.Sels.{sel}
 use Rattle.shift.specs.Answers.{to}
-use Rattle.hex.specs.Digits.{hexed}
-use Rattle.hex.proofs.Theorems.{two_digits}
+use Rattle.hexline.specs.Digits.{hexed}
+use Rattle.hexline.proofs.Theorems.{two_digits}
 use Rattle.frame.specs.Format.{mark, frame_bytes}
 use Rattle.frame.proofs.Inverses.{marks_have_lines}
 use Rattle.writer.specs.declared.Written.{Written}

@@ -1,4 +1,6 @@
 // Marks in a flat slice, five numbers to each: whether it is kept, its anchor and its head.
+#![tactic(auto)]
+
 mod ends;
 
 ghost use Rattle.std.specs.Prelude.{true, [], map, ◌≡◌, ◌≤◌, length, get_or};

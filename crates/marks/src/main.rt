@@ -6,6 +6,8 @@
 //     2 a merge     the numbers of the selections; printed are the count and the numbers of the merged ones
 //     3 a selection its kind (0 Char, 1 Line, 2 Block), anchor and head, whether it is extended and to where, and a row; printed are
 //                   its ends, its rows, and what it covers of that row
+#![tactic(auto)]
+
 mod replay;
 
 use crate::replay::replay;

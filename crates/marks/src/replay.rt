@@ -92,7 +92,7 @@ fn end_of(start: usize, length: u32, whole: usize) -> usize
 }
 
 // How many numbers the text, the payload and the two lists have.
-#[derive(Drop)]
+#[derive(Clone, Copy)]
 struct Lengths {
     text: u32,
     payload: u32,

@@ -1,4 +1,6 @@
 // Selections in a flat slice, four numbers to each: merged where they share a position.
+#![tactic(auto)]
+
 mod collapsing;
 
 ghost use Rattle.std.specs.Prelude.{◌≡◌};
@@ -12,7 +14,7 @@ use sorting::{copy, sort};
 pub const NUMBERS_LIMIT: usize = 4_096;
 
 // How many selections stand in the output, or the refusal.
-#[derive(Drop)]
+#[derive(Clone, Copy)]
 pub enum Merged {
     Count(usize),
     Refused(Refusal),

@@ -3,7 +3,7 @@
 use Rattle.std.specs.Prelude.{◌≡◌, true, false, [], ◌∷◌, replicate}
 use Rattle.text.specs.Rows.{at}
 use Rattle.select.specs.Sels.{sel}
-use Rattle.hex.specs.Digits.{hexed}
+use Rattle.hexline.specs.Digits.{hexed}
 use Rattle.edit.specs.declared.Edit.TheVariants.{InsertStr}
 use Rattle.frame.specs.declared.Head.TheVariants as as_head
 use Rattle.frame.specs.Forms.{malformed, text, mark, plain, head_of}

@@ -1,13 +1,15 @@
 // Whether a line is sound and stands in its place. No edit is run.
+#![tactic(auto)]
+
 ghost use Rattle.std.specs.Prelude.{◌≡◌, ◌*◌, ◌≤◌, length};
 ghost use Rattle.text.specs.Text.{text_limit};
-ghost use Rattle.hex.specs.Digits.{digit_limit};
+ghost use Rattle.hexline.specs.Digits.{digit_limit};
 ghost use Rattle.frame.specs.Forms.{Form, head_of, line_form};
 ghost use Rattle.place.specs.Places.{mark_limit, mark_ok, judged, seen};
 
 use forms::head_of;
 use frame::{BYTE_LIMIT, Head, SHORT_BYTES, SHORT_LINE};
-use hex::{Unhexed, unhex};
+use hexline::{Unhexed, unhex};
 use rows::contains;
 use select::Sel;
 
@@ -15,7 +17,7 @@ use select::Sel;
 pub const MARK_LIMIT: usize = 64;
 
 // What has been seen of a script.
-#[derive(Drop)]
+#[derive(Clone, Copy)]
 pub struct Place {
     // a line that is not malformed
     pub sound: bool,

@@ -1,4 +1,6 @@
 // Records of numbers for callers that know no enums: an edit, and each answer with the number of its refusal, or 0.
+#![tactic(auto)]
+
 mod answers;
 mod edits;
 
@@ -14,7 +16,7 @@ use text::Position;
 
 // An edit's numbers, its kind among them. What the kind does not use is 0, or not read.
 #[repr(C)]
-#[derive(Drop)]
+#[derive(Clone, Copy)]
 pub struct Numbers {
     pub kind: u32,
     pub start: Position,
@@ -23,14 +25,14 @@ pub struct Numbers {
 }
 
 // The edit that some numbers mean.
-#[derive(Drop)]
+#[derive(Clone, Copy)]
 pub enum MeantEdit {
     Edit(Edit),
     NoKind,
 }
 
 // The selection that a kind with two ends means.
-#[derive(Drop)]
+#[derive(Clone, Copy)]
 pub enum MeantSelection {
     Selection(Selection),
     NoKind,
@@ -38,7 +40,7 @@ pub enum MeantSelection {
 
 // How many elements stand at the front of the output.
 #[repr(C)]
-#[derive(Drop)]
+#[derive(Clone, Copy)]
 pub struct Count {
     pub refusal: u32,
     pub offset: usize,
@@ -47,7 +49,7 @@ pub struct Count {
 
 // The view after an edit, the edit that takes it back, and how much of its payload and lists was written.
 #[repr(C)]
-#[derive(Drop)]
+#[derive(Clone, Copy)]
 pub struct Change {
     pub refusal: u32,
     pub offset: usize,
@@ -60,7 +62,7 @@ pub struct Change {
 
 // A position, where there is one.
 #[repr(C)]
-#[derive(Drop)]
+#[derive(Clone, Copy)]
 pub struct Found {
     pub refusal: u32,
     pub found: bool,
@@ -69,7 +71,7 @@ pub struct Found {
 
 // A selection, where there is one.
 #[repr(C)]
-#[derive(Drop)]
+#[derive(Clone, Copy)]
 pub struct SelFound {
     pub refusal: u32,
     pub found: bool,
@@ -78,7 +80,7 @@ pub struct SelFound {
 
 // The columns of a row that are covered.
 #[repr(C)]
-#[derive(Drop)]
+#[derive(Clone, Copy)]
 pub struct Cover {
     pub refusal: u32,
     pub covered: bool,
@@ -89,7 +91,7 @@ pub struct Cover {
 
 // The first and the last row that are covered.
 #[repr(C)]
-#[derive(Drop)]
+#[derive(Clone, Copy)]
 pub struct Bounds {
     pub refusal: u32,
     pub top: u32,
@@ -98,7 +100,7 @@ pub struct Bounds {
 
 // The view after a call that edits nothing.
 #[repr(C)]
-#[derive(Drop)]
+#[derive(Clone, Copy)]
 pub struct Viewed {
     pub refusal: u32,
     pub view: View,
@@ -106,7 +108,7 @@ pub struct Viewed {
 
 // The edit that a line is, and how much of its payload and lists was written.
 #[repr(C)]
-#[derive(Drop)]
+#[derive(Clone, Copy)]
 pub struct EditLine {
     pub refusal: u32,
     pub offset: usize,
@@ -117,7 +119,7 @@ pub struct EditLine {
 }
 
 #[repr(C)]
-#[derive(Drop)]
+#[derive(Clone, Copy)]
 pub struct Said {
     pub refusal: u32,
     pub yes: bool,

@@ -1,4 +1,6 @@
 // What every worker does between finding what comes of an edit and storing it: rows 7 to 9 judged, the end of what goes in, the new view.
+#![tactic(auto)]
+
 ghost use Rattle.std.specs.Prelude.{◌≡◌, ℕ, ◌+◌, ◌%◌, ◌^◌, ◌≤◌, length};
 ghost use Rattle.text.specs.Rows.{◌⊕◌, end_of};
 ghost use Rattle.text.specs.Text.{is_lf, text_limit};

@@ -2,7 +2,7 @@
 use mathlib.Core.Path.{refl}
 use Rattle.edit.specs.Edits.{pieces}
 use Rattle.frame.specs.Format.{chunk_bytes, column_bytes, edit_bytes, frame_bytes, width_bytes}
-use Rattle.hex.specs.Digits.{digit_of, hexed}
+use Rattle.hexline.specs.Digits.{digit_of, hexed}
 use Rattle.utf8.specs.Reading.{writing}
 use Rattle.utf8.specs.Rfc3629.{octets}
 use Rattle.printing.specs.Examples.{RuledOut}

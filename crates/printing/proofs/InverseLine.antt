@@ -10,8 +10,8 @@ use Rattle.promise.specs.Slices.{over}
 use Rattle.promise.proofs.Lists.{tail_whole, part-pasted, over-more}
 use Rattle.utf8.specs.Calls.{Outcome, outcome}
 use Rattle.utf8.proofs.Stores.{stored-all}
-use Rattle.hex.specs.Digits.{digit_of, hexed}
-use Rattle.hex.proofs.Zeros.{hexed-zero}
+use Rattle.hexline.specs.Digits.{digit_of, hexed}
+use Rattle.hexline.proofs.Zeros.{hexed-zero}
 use Rattle.frame.specs.Format.{Frame, frame_bytes}
 use Rattle.frame.specs.Inverses.{HasLine}
 use Rattle.frame.proofs.Theorems.{line-done}

@@ -11,9 +11,9 @@ use Rattle.utf8.specs.Calls.{Outcome, outcome, stored}
 use Rattle.edit.specs.declared.Refusal.{Refusal}
 use Rattle.edit.specs.declared.Refusal.TheVariants.{BadText, TooBig, TooMany, BadPayload, BadUtf8, Reversed, BeyondRow, NoRoom, NoRecord, BadFrame}
 use Rattle.edit.specs.Call.{number_of}
-use Rattle.hex.specs.Digits.{hexed}
-use Rattle.hex.specs.Calls.{digits_into}
-use Rattle.hex.proofs.Theorems.{two_digits}
+use Rattle.hexline.specs.Digits.{hexed}
+use Rattle.hexline.specs.Calls.{digits_into}
+use Rattle.hexline.proofs.Theorems.{two_digits}
 use Rattle.printing.specs.Prints.{printed_as}
 
 pub printed-length : (bs : List ℕ) → length (printed_as bs) ≡ length bs * 2 + 1

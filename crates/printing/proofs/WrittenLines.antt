@@ -13,7 +13,7 @@ use Rattle.utf8.specs.Calls.{Outcome, outcome, stored}
 use Rattle.utf8.proofs.Stores.{stored-all}
 use Rattle.edit.specs.declared.Refusal.{Refusal}
 use Rattle.edit.specs.Call.{number_of, offset_of}
-use Rattle.hex.specs.Digits.{hexed}
+use Rattle.hexline.specs.Digits.{hexed}
 use Rattle.frame.specs.Format.{Frame, frame_bytes}
 use Rattle.frame.specs.Writes.{line_of}
 use Rattle.frame.specs.Inverses.{HasLine}

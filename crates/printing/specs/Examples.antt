@@ -1,7 +1,7 @@
 -- What rules out wrong printers: each line is what the promise asks for at one frame, and above it stands the program that prints something
 -- else there. 0 is 48, 1 is 49, LF is 10.
 use Rattle.std.specs.Prelude.{◌≡◌, [], ◌∷◌, ◌++◌}
-use Rattle.hex.specs.Digits.{hexed}
+use Rattle.hexline.specs.Digits.{hexed}
 use Rattle.edit.specs.declared.Edit.TheVariants.{SplitLines}
 use Rattle.edit.specs.Edits.{whole, row_at}
 use Rattle.frame.specs.Format.{text, edit, frame_bytes}

@@ -1,8 +1,10 @@
 // Lines of output.
+#![tactic(auto)]
+
 ghost use Rattle.std.specs.Prelude.{[], ◌∷◌, ◌≡◌, ◌+◌, ◌≤◌, ◌<◌, length, set};
 ghost use Rattle.promise.specs.Paper.{done};
 ghost use Rattle.promise.specs.Slices.{over};
-ghost use Rattle.hex.specs.Digits.{hexed};
+ghost use Rattle.hexline.specs.Digits.{hexed};
 ghost use Rattle.edit.specs.Edits.{whole};
 ghost use Rattle.edit.specs.Call.{number_of};
 ghost use Rattle.frame.specs.Format.{text as text_frame, edit as edit_frame, frame_bytes};
@@ -10,7 +12,7 @@ ghost use Rattle.frame.specs.Writes.{line_of};
 ghost use Rattle.printing.specs.Prints.{printed_as};
 
 use edit::{Edit, Refusal};
-use hex::hex;
+use hexline::hex;
 use writer::{Written, write_edit, write_text};
 
 const LF: u8 = 10;

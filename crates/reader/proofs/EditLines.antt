@@ -17,8 +17,8 @@ use Rattle.edit.specs.declared.Edit.{Edit}
 use Rattle.edit.specs.declared.Edit.TheVariants.{InsertChar, InsertStr, DeleteRange, JoinLines, SplitLines, Replace, InsertBlock, DeleteBlockChunks}
 use Rattle.edit.specs.Edits.{Whole, whole}
 use Rattle.select.specs.declared.Sel.{Sel}
-use Rattle.hex.specs.Digits.{digit_limit, unhexed, paired, line_ok}
-use Rattle.hex.proofs.Pairs.{unhexed-length}
+use Rattle.hexline.specs.Digits.{digit_limit, unhexed, paired, line_ok}
+use Rattle.hexline.proofs.Pairs.{unhexed-length}
 use Rattle.frame.specs.declared.Head.TheVariants as as_head
 use Rattle.frame.specs.Numbers.{number_in}
 use Rattle.frame.specs.Format.{Frame}

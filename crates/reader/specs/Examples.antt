@@ -3,7 +3,7 @@
 use Rattle.std.specs.Prelude.{◌≡◌, List, [], ◌∷◌, ◌++◌, ℕ, replicate}
 use Rattle.promise.specs.Paper.{done, refused}
 use Rattle.text.specs.Rows.{at}
-use Rattle.hex.specs.Digits.{hexed}
+use Rattle.hexline.specs.Digits.{hexed}
 use Rattle.edit.specs.declared.Edit.TheVariants.{InsertStr, SplitLines, InsertBlock, DeleteBlockChunks}
 use Rattle.edit.specs.Edits.{row_at}
 use Rattle.frame.specs.Numbers.{number}

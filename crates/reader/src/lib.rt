@@ -1,11 +1,13 @@
 // Lines read as frames, with their payload and lists in lent slices. Nothing is run.
+#![tactic(auto)]
+
 mod lists;
 mod strings;
 
 ghost use Rattle.std.specs.Prelude.{◌≡◌, List, [], ℕ, ◌*◌, ◌≤◌, length};
 ghost use Rattle.promise.specs.Paper.{done};
 ghost use Rattle.edit.specs.Edits.{whole};
-ghost use Rattle.hex.specs.Digits.{digit_limit};
+ghost use Rattle.hexline.specs.Digits.{digit_limit};
 ghost use Rattle.frame.specs.declared.Head.TheVariants as as_head;
 ghost use Rattle.frame.specs.Format as format;
 ghost use Rattle.frame.specs.Forms.{form_of, head_of};
@@ -17,12 +19,12 @@ use crate::strings::{read_chunks, read_string, read_text};
 use edit::{Edit, Refusal};
 use forms::head_of;
 use frame::{BYTE_LIMIT, Head, SHORT_BYTES, SHORT_LINE};
-use hex::{Unhexed, unhex};
+use hexline::{Unhexed, unhex};
 use select::Sel;
 use utf8::ByteOffset;
 
 // A frame, with how much of the payload's and the lists' slices it takes; or the refusal.
-#[derive(Drop)]
+#[derive(Clone, Copy)]
 pub enum FrameRead {
     Text(usize),
     Mark(Sel),
@@ -36,7 +38,7 @@ pub enum FrameRead {
 }
 
 // How many strings a block has, and how many characters they have together.
-#[derive(Drop)]
+#[derive(Clone, Copy)]
 enum Tally {
     Counted { chunks: usize, chars: usize },
     BadUtf8(ByteOffset),

@@ -1,4 +1,6 @@
 // What is known of an edit from its steps before anything is stored, and what its inverse records of them.
+#![tactic(auto)]
+
 ghost use mathlib.Core.Path.{◌≡◌};
 ghost use mathlib.Core.List.{List, ◌++◌};
 ghost use Prim.Native.Nat.{ℕ, ◌+◌, ◌-◌, ◌*◌, ◌≤◌, ◌<◌};
@@ -16,7 +18,7 @@ use splice::{copy_in, fill};
 use text::{CharOffset, LF};
 
 // A step's numbers; `back` is how many of those that go an inverse gives back.
-#[derive(Drop)]
+#[derive(Clone, Copy)]
 struct Five {
     keep: usize,
     gone: usize,
@@ -26,7 +28,7 @@ struct Five {
 }
 
 // How long the text will be, and the cut that the inverse gives back; how many LFs go, and how many come.
-#[derive(Drop)]
+#[derive(Clone, Copy)]
 pub struct Sums {
     pub used: usize,
     pub cut: usize,

@@ -1,4 +1,6 @@
 // Edits resolved against a text: their steps, and what is known of the answer before anything is stored.
+#![tactic(auto)]
+
 mod rowwise;
 
 ghost use mathlib.Core.Path.{◌≡◌};

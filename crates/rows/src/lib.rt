@@ -1,4 +1,6 @@
 // Rows and places of a text. The functions that take `text` are lent the used part alone.
+#![tactic(auto)]
+
 ghost use Rattle.std.specs.Prelude.{◌≡◌, ◌≤◌, length, drop};
 ghost use Rattle.text.specs.Rows.{row_count, last_row, row_len, row_start, span, clamp, place, in_text};
 ghost use Rattle.text.specs.Text.{is_lf, text_limit};

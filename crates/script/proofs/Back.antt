@@ -10,8 +10,8 @@ use Rattle.edit.specs.Edits.{Whole}
 use Rattle.edit.specs.Runs.{Run, stop, step as then, edits, inverses, stages}
 use Rattle.edit.specs.Demand3.{State as Core, text, Accepted}
 use Rattle.edit.proofs.Accepted.{Ok}
-use Rattle.hex.proofs.Breaks.{hexed-plain}
-use Rattle.hex.proofs.Zeros.{hexed-zero}
+use Rattle.hexline.proofs.Breaks.{hexed-plain}
+use Rattle.hexline.proofs.Zeros.{hexed-zero}
 use Rattle.frame.specs.Format.{edit, frame_bytes}
 use Rattle.loading.specs.States.{State, text_in, buffer_limit}
 use Rattle.step.specs.Steps.{step, ending}

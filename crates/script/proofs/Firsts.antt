@@ -10,7 +10,7 @@ use Rattle.promise.proofs.Bools.{known, clash}
 use Rattle.text.specs.Rows.{Line, lines}
 use Rattle.text.specs.Text.{is_lf}
 use Rattle.edit.specs.Demand3.{text as text_of}
-use Rattle.hex.specs.Digits.{digit_of, hexed}
+use Rattle.hexline.specs.Digits.{digit_of, hexed}
 use Rattle.frame.specs.Format.{text, frame_bytes}
 use Rattle.frame.proofs.Theorems.{line-done, writes_read}
 use Rattle.loading.specs.States.{State, text_in, opening}

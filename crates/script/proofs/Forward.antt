@@ -15,9 +15,9 @@ use Rattle.edit.specs.Demand3.{State as Core, text, Undoable}
 use Rattle.edit.proofs.Accepted.{Ok}
 use Rattle.edit.proofs.Calls.{Held}
 use Rattle.edit.proofs.Demand3.{run-held, run_ok}
-use Rattle.hex.specs.Digits.{hexed}
-use Rattle.hex.proofs.Breaks.{hexed-plain}
-use Rattle.hex.proofs.Zeros.{hexed-zero}
+use Rattle.hexline.specs.Digits.{hexed}
+use Rattle.hexline.proofs.Breaks.{hexed-plain}
+use Rattle.hexline.proofs.Zeros.{hexed-zero}
 use Rattle.frame.specs.Format.{edit, frame_bytes}
 use Rattle.frame.specs.Reads.{frame_read}
 use Rattle.loading.specs.States.{State, text_in, buffer_limit}

@@ -11,7 +11,7 @@ use Rattle.text.specs.Rows.{lines}
 use Rattle.text.specs.Text.{is_lf, all_admissible, all}
 use Rattle.edit.proofs.Accepted.{holds, Ok, ok_fits, ok_admissible}
 use Rattle.edit.proofs.Calls.{Held}
-use Rattle.hex.proofs.Breaks.{hexed-plain}
+use Rattle.hexline.proofs.Breaks.{hexed-plain}
 use Rattle.frame.specs.Format.{text, frame_bytes}
 use Rattle.marking.specs.MarkLines.{mark_lines}
 use Rattle.loading.specs.States.{State, text_in, buffer_limit, opening}

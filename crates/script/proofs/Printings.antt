@@ -11,9 +11,9 @@ use Rattle.text.proofs.Ended.{Plain}
 use Rattle.edit.proofs.Maps.{map-append}
 use Rattle.select.specs.declared.Sel.{Sel}
 use Rattle.shift.specs.Answers.{Followed, to, dropped}
-use Rattle.hex.specs.Digits.{digit_of, hexed}
-use Rattle.hex.proofs.Breaks.{hexed-plain}
-use Rattle.hex.proofs.Zeros.{zero_byte, hexed-zero}
+use Rattle.hexline.specs.Digits.{digit_of, hexed}
+use Rattle.hexline.proofs.Breaks.{hexed-plain}
+use Rattle.hexline.proofs.Zeros.{zero_byte, hexed-zero}
 use Rattle.frame.specs.Format.{text, mark, frame_bytes}
 use Rattle.marking.specs.MarkLines.{mark_line, mark_lines}
 use Rattle.loading.specs.States.{State, text_in}

@@ -4,7 +4,7 @@ use Rattle.std.specs.Prelude.{◌≡◌, true, false, List, [], ◌∷◌, ◌++
 use Rattle.promise.specs.Paper.{done, refused}
 use Rattle.utf8.specs.Calls.{outcome}
 use Rattle.text.specs.Rows.{at}
-use Rattle.hex.specs.Digits.{hexed}
+use Rattle.hexline.specs.Digits.{hexed}
 use Rattle.frame.specs.Numbers.{number, position}
 use Rattle.feed.specs.Scripts.{output}
 use Rattle.script.specs.Calls.{ran_into}

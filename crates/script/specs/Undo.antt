@@ -4,7 +4,7 @@ use Rattle.promise.specs.Paper.{Paper, done, refused}
 use Rattle.text.specs.Rows.{Line, lines}
 use Rattle.text.specs.Text.{is_lf, all_admissible}
 use Rattle.edit.specs.Call.{undoable}
-use Rattle.hex.specs.Digits.{hexed}
+use Rattle.hexline.specs.Digits.{hexed}
 use Rattle.frame.specs.Format.{Frame, text, mark, edit, frame_bytes}
 use Rattle.frame.specs.Reads.{frame_read}
 use Rattle.loading.specs.States.{State, text_in, buffer_limit, opening}

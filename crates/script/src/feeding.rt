@@ -11,7 +11,7 @@ use feed::feed;
 use loading::Script;
 
 // The script after some bytes, how many of a line are held, and how much they printed.
-#[derive(Drop)]
+#[derive(Clone, Copy)]
 pub struct FedOver {
     pub script: Script,
     pub pending: usize,

@@ -1,4 +1,6 @@
 // A whole script on slices: the bytes of its lines, and a slice for all that it prints.
+#![tactic(auto)]
+
 mod emitting;
 mod feeding;
 
@@ -14,14 +16,14 @@ use feeding::feed_all;
 use step::{MARK_ROOM, TEXT_ROOM, opening};
 
 // How many bytes were printed to the front of the slice lent for them.
-#[derive(Drop)]
+#[derive(Clone, Copy)]
 pub enum Ran {
     Bytes(usize),
     NoRoom,
 }
 
 // How much has been printed, and whether it fits.
-#[derive(Drop)]
+#[derive(Clone, Copy)]
 struct Went {
     fits: bool,
     printed: usize,

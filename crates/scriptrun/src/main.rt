@@ -1,5 +1,7 @@
 // Runs a script: feeds it what comes on standard input and writes what that prints, piece by piece, and at the end the text and the marks. A read or a
 // write that fails is a line on standard error, and nothing is printed behind it.
+#![tactic(auto)]
+
 mod streams;
 
 ghost use Rattle.std.specs.Prelude.{false, ◌≡◌, ◌≤◌, length, take};
@@ -17,7 +19,7 @@ use loading::Script;
 use step::{MARK_ROOM, TEXT_ROOM, opening};
 
 // The script, how much of a line is held, whether more of the input is to be read, and whether nothing has failed.
-#[derive(Drop)]
+#[derive(Clone, Copy)]
 struct Stand {
     script: Script,
     pending: usize,

@@ -18,7 +18,7 @@ pub fn is_to_try_again() -> bool {
 }
 
 // How many bytes a write took, and whether it failed.
-#[derive(Drop)]
+#[derive(Clone, Copy)]
 struct Wrote {
     count: usize,
     failed: bool,

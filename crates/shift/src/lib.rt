@@ -1,4 +1,6 @@
 // Where positions and selections stand once an edit has been made. The text is the one before the edit.
+#![tactic(auto)]
+
 mod follow;
 mod judging;
 
@@ -16,7 +18,7 @@ use text::Position;
 use too_big::small_position;
 
 // The position after the edit, or that it cannot be followed, or the refusal.
-#[derive(Drop)]
+#[derive(Clone, Copy)]
 pub enum Shifted {
     At(Position),
     Dropped,
@@ -24,7 +26,7 @@ pub enum Shifted {
 }
 
 // The same of a selection, which is dropped whole.
-#[derive(Drop)]
+#[derive(Clone, Copy)]
 pub enum SelShifted {
     At(Sel),
     Dropped,
@@ -32,14 +34,14 @@ pub enum SelShifted {
 }
 
 // A selection carried over an edit that is not refused.
-#[derive(Drop)]
+#[derive(Clone, Copy)]
 pub enum Carried {
     At(Sel),
     Dropped,
 }
 
 // A position followed through an edit that is not refused.
-#[derive(Drop)]
+#[derive(Clone, Copy)]
 enum Track {
     To(Position),
     Dropped,

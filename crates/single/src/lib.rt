@@ -1,4 +1,6 @@
 // Edits of one step, resolved: insertions, and deletes of characters and of lines.
+#![tactic(auto)]
+
 mod cuts;
 
 ghost use mathlib.Core.Path.{◌≡◌};
@@ -20,14 +22,14 @@ use steps::{Resolved, put_step};
 use text::{CharOffset, Col, Position, Row};
 
 // What is cut stands from `start` up to `end`.
-#[derive(Drop)]
+#[derive(Clone, Copy)]
 pub struct Cut {
     pub start: CharOffset,
     pub end: CharOffset,
 }
 
 // A cut of whole rows: the first of them, and the place where their text goes back in.
-#[derive(Drop)]
+#[derive(Clone, Copy)]
 pub struct LineCut {
     pub lo: Row,
     pub back: Position,

@@ -1,5 +1,7 @@
 // The splice: in a lent buffer a gap is opened for characters that come, and closed over those that go. The functions
 // below are for callers that have planned the splice and know that it fits.
+#![tactic(auto)]
+
 ghost use Rattle.std.specs.Prelude.{◌≡◌, ◌++◌, ◌+◌, ◌-◌, ◌≤◌, length, take, drop, replicate};
 ghost use Rattle.std.proofs.Math.Seq.{paste};
 ghost use Rattle.splice.specs.Splice.{gap, gap_opened, gap_removed, gap_closed};

@@ -1,4 +1,6 @@
 // The steps of splits, column by column.
+#![tactic(auto)]
+
 ghost use mathlib.Core.Path.{◌≡◌};
 ghost use mathlib.Core.List.{List};
 ghost use Prim.Native.Nat.{ℕ, ◌+◌, ◌-◌, ◌*◌, ◌≤◌};
@@ -17,7 +19,7 @@ use steps::put_step;
 use text::Col;
 
 // Where the first break of a split row stands, and whether every column with a flag is within its row.
-#[derive(Drop)]
+#[derive(Clone, Copy)]
 pub struct Breaks {
     pub first: u32,
     pub within: bool,

@@ -11,7 +11,7 @@ use Rattle.edit.specs.Edits.{Whole}
 use Rattle.edit.specs.Call.{Outcome, undoable}
 use Rattle.edit.specs.Demand3.{State as Core, Beside, RecordRoom, called, after, returned, Accepted, Undoable}
 use Rattle.edit.proofs.Calls.{accepted-once}
-use Rattle.hex.specs.Digits.{hexed}
+use Rattle.hexline.specs.Digits.{hexed}
 use Rattle.frame.specs.Format.{edit, frame_bytes}
 use Rattle.printing.specs.Prints.{printed_as}
 use Rattle.marking.proofs.Orders.{applied-same}

@@ -9,7 +9,7 @@ use Rattle.frame.specs.Format.{chunk_bytes, column_bytes, edit_bytes, frame_byte
 use Rattle.frame.specs.Forms.{before, block_form, block_of, chunks_form, columns_in, delete_form, flagged, flags_in, form_by, insert_form, join_form, kind_form, line_form, mark_form, pads_in, replace_form, split_form, strings_from, widths_in}
 use Rattle.frame.specs.Numbers.{items, number_in}
 use Rattle.frame.specs.Reads.{ahead, contents, edit_of, first_list, read_form, text_of}
-use Rattle.hex.specs.Digits.{digit_of, hexed, is_digit, paired, unhexed, value_of}
+use Rattle.hexline.specs.Digits.{digit_of, hexed, is_digit, paired, unhexed, value_of}
 use Rattle.joins.specs.Turns.{gap_len}
 use Rattle.loading.specs.Loads.{framed_by, loaded}
 use Rattle.marking.specs.InOrder.{in_order}

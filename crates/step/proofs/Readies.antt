@@ -28,8 +28,8 @@ use Rattle.edit.proofs.Workers.{accepted}
 use Rattle.given.specs.Tests.{later_tests}
 use Rattle.select.specs.declared.Sel.{Sel}
 use Rattle.shift.specs.Answers.{to}
-use Rattle.hex.specs.Digits.{hexed}
-use Rattle.hex.proofs.Theorems.{two_digits}
+use Rattle.hexline.specs.Digits.{hexed}
+use Rattle.hexline.proofs.Theorems.{two_digits}
 use Rattle.frame.specs.Format as format
 use Rattle.frame.specs.Format.{Frame, frame_bytes}
 use Rattle.frame.specs.Forms.{Form, malformed, text, mark, edit, line_form}

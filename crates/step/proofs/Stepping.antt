@@ -11,7 +11,7 @@ use lib.Seq.{paste}
 use Rattle.promise.specs.Slices.{over}
 use Rattle.text.specs.Rows.{at}
 use Rattle.text.specs.Text.{all_admissible}
-use Rattle.hex.specs.Digits.{hexed}
+use Rattle.hexline.specs.Digits.{hexed}
 use Rattle.edit.specs.declared.Edit.{Edit}
 use Rattle.edit.specs.Edits.{Whole}
 use Rattle.select.specs.declared.Sel.{Sel}

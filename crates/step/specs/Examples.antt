@@ -3,7 +3,7 @@
 use Rattle.std.specs.Prelude.{◌≡◌, true, false, List, [], ◌∷◌, ◌++◌, ℕ, take, replicate}
 use Rattle.text.specs.Rows.{at}
 use Rattle.select.specs.Sels.{sel}
-use Rattle.hex.specs.Digits.{hexed}
+use Rattle.hexline.specs.Digits.{hexed}
 use Rattle.frame.specs.Numbers.{position}
 use Rattle.shift.specs.Answers.{to}
 use Rattle.loading.specs.States.{State, state}

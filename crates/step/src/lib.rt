@@ -1,4 +1,6 @@
 // A script, one line at a time.
+#![tactic(auto)]
+
 mod edits;
 
 ghost use Rattle.std.specs.Prelude.{◌≡◌, ◌≤◌, length};

@@ -1,5 +1,7 @@
 // Edits as lists of steps: what they mean is in specs/. In a slice a step is five numbers: how many characters stay, how many go, how many the
 // edit makes itself, how many of the payload come, and how many of those that go an inverse does not give back.
+#![tactic(auto)]
+
 ghost use mathlib.Core.Path.{◌≡◌};
 ghost use mathlib.Core.List.{◌∷◌};
 ghost use Prim.Native.Nat.{◌≤◌};
@@ -10,7 +12,7 @@ use text::{CharOffset, Position};
 
 // What an edit comes to in a text: how many steps, what comes where a step makes something, whether row 7 lets it be, the inverse, how long its
 // lists are, and where the row starts that its columns count from. The cursor is settled, or clamped in the text that comes of the edit.
-#[derive(Drop)]
+#[derive(Clone, Copy)]
 pub struct Resolved {
     pub steps: usize,
     pub made: u32,

@@ -1,4 +1,6 @@
 // Texts and places in them: rows, columns, character offsets, and which texts are admitted.
+#![tactic(auto)]
+
 mod admit;
 
 ghost use Rattle.std.specs.Prelude.{◌≡◌, min, max};
@@ -9,26 +11,26 @@ pub use admit::{TEXT_LIMIT, all_admissible, is_text};
 pub const LF: u32 = 10;
 
 #[repr(C)]
-#[derive(Drop)]
+#[derive(Clone, Copy)]
 pub struct Row(pub u32);
 
 #[repr(C)]
-#[derive(Drop)]
+#[derive(Clone, Copy)]
 pub struct Col(pub u32);
 
 // A place in a text, counted in characters from its start.
-#[derive(Drop)]
+#[derive(Clone, Copy)]
 pub struct CharOffset(pub usize);
 
 #[repr(C)]
-#[derive(Drop)]
+#[derive(Clone, Copy)]
 pub struct Position {
     pub row: Row,
     pub col: Col,
 }
 
 // A row that a text has: its number, where it starts, and where it ends, at its LF or at the end of the text.
-#[derive(Drop)]
+#[derive(Clone, Copy)]
 pub struct Span {
     pub row: Row,
     pub start: CharOffset,
@@ -36,14 +38,14 @@ pub struct Span {
 }
 
 // A place in a text, by its two names.
-#[derive(Drop)]
+#[derive(Clone, Copy)]
 pub struct Place {
     pub pos: Position,
     pub at: CharOffset,
 }
 
 // A position in the text, or the refusal.
-#[derive(Drop)]
+#[derive(Clone, Copy)]
 pub enum Clamped {
     At(Position),
     BadText,

@@ -1,4 +1,6 @@
 // An edit on a view that is lent: the record is updated where it stands.
+#![tactic(auto)]
+
 ghost use Rattle.std.specs.Prelude.{◌≡◌};
 ghost use Rattle.edit.specs.Call.{paper_answer, lent};
 ghost use Rattle.thin.specs.Stands.{view_after, PromisedIn};

@@ -1,4 +1,6 @@
 // Answers as records, of the calls whose answers `plain` does not know.
+#![tactic(auto)]
+
 ghost use Rattle.std.specs.Prelude.{◌≡◌};
 ghost use Rattle.asked.specs.Calls.{paper_text, paper_mark, paper_edit};
 ghost use Rattle.merge.specs.Call.{paper_merged};

@@ -1,4 +1,6 @@
 // Refusal 2: numbers over their limit. What a kind does not use is not read.
+#![tactic(auto)]
+
 ghost use Rattle.std.specs.Prelude.{◌≡◌};
 ghost use Rattle.text.specs.Text.{all};
 ghost use Rattle.edit.specs.Refusals.{small, small_position, small_range, small_ok};

@@ -1,4 +1,6 @@
 // Refusal 3: lists, spans, joins and payloads over their limits.
+#![tactic(auto)]
+
 ghost use Rattle.std.specs.Prelude.{◌≡◌, ◌-◌, ◌≤◌, min, max, leb, length};
 ghost use Rattle.text.specs.Rows.{last_row};
 ghost use Rattle.text.specs.Text.{is_lf, text_limit};

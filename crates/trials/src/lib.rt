@@ -1,4 +1,6 @@
 // Positions and edits from the numbers that programs read.
+#![tactic(auto)]
+
 use edit::{Edit, MotionKind};
 use text::{Col, Position, Row};
 

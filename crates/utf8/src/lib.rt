@@ -1,19 +1,20 @@
 // UTF-8 as RFC 3629 has it: its definitions and their laws, and the answers of those who read and write it. Which scalars a
 // text admits is no part of this crate.
+#![tactic(auto)]
 
 // A place in a slice of bytes.
-#[derive(Drop)]
+#[derive(Clone, Copy)]
 pub struct ByteOffset(pub usize);
 
 // How many scalars a slice of bytes holds.
-#[derive(Drop)]
+#[derive(Clone, Copy)]
 pub enum ScalarCount {
     Scalars(usize),
     BadUtf8(ByteOffset),
 }
 
 // How many scalars were read to the front of the slice lent for them.
-#[derive(Drop)]
+#[derive(Clone, Copy)]
 pub enum Decoded {
     Scalars(usize),
     BadUtf8(ByteOffset),
@@ -21,14 +22,14 @@ pub enum Decoded {
 }
 
 // How many bytes a slice of scalars takes.
-#[derive(Drop)]
+#[derive(Clone, Copy)]
 pub enum OctetCount {
     Octets(usize),
     BadText,
 }
 
 // How many bytes were written to the front of the slice lent for them.
-#[derive(Drop)]
+#[derive(Clone, Copy)]
 pub enum Encoded {
     Octets(usize),
     BadText,
@@ -36,14 +37,14 @@ pub enum Encoded {
 }
 
 // What stands at a place of a slice of bytes: a scalar and the place after its sequence, or nothing well-formed.
-#[derive(Drop)]
+#[derive(Clone, Copy)]
 pub enum Step {
     Scalar { value: u32, next: ByteOffset },
     BadUtf8(ByteOffset),
 }
 
 // The sequence of one scalar.
-#[derive(Drop)]
+#[derive(Clone, Copy)]
 pub enum Sequence {
     One(u8),
     Two(u8, u8),

@@ -6,6 +6,8 @@
 //     BYTES ! OFFSET      the bytes are refused, for what starts at the offset
 //     ? SCALARS           the scalars are refused
 // A line of any other form counts as a vector that did not come out.
+#![tactic(auto)]
+
 mod trial;
 mod vector;
 
@@ -14,7 +16,7 @@ ghost use Rattle.std.specs.Prelude.{◌≤◌, ◌<◌, length};
 use libc::{STDIN_FILENO, STDOUT_FILENO};
 use lines::part_at;
 
-#[derive(Drop)]
+#[derive(Clone, Copy)]
 struct Tally {
     passed: u64,
     count: u64,

@@ -9,7 +9,7 @@ const SCALAR_FILL: u32 = 0xA5A5A5A5;
 const BYTE_FILL: u8 = 0xF5;
 
 // An answer by the numbers of the refusal table: 0 and how much was written, or the refusal's number and its offset.
-#[derive(Drop)]
+#[derive(Clone, Copy)]
 pub(crate) struct Said {
     pub(crate) number: u32,
     pub(crate) value: usize,

@@ -1,4 +1,6 @@
 // Calls on a view that edit nothing.
+#![tactic(auto)]
+
 mod cursor;
 mod undo;
 
@@ -7,7 +9,7 @@ use edit::{Refusal, View};
 pub use undo::undoable;
 
 // Whether an edit's inverse gives the text back, or the refusal.
-#[derive(Drop)]
+#[derive(Clone, Copy)]
 pub enum CanUndo {
     Yes,
     No,
@@ -15,7 +17,7 @@ pub enum CanUndo {
 }
 
 // The view with its cursor set, or the refusal.
-#[derive(Drop)]
+#[derive(Clone, Copy)]
 pub enum CursorSet {
     At(View),
     BadText,

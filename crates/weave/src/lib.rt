@@ -1,4 +1,6 @@
 // Steps carried out in a lent buffer: every piece that stays is moved once.
+#![tactic(auto)]
+
 ghost use mathlib.Core.Path.{◌≡◌};
 ghost use mathlib.Core.List.{◌++◌};
 ghost use Prim.Native.Nat.{◌+◌, ◌-◌, ◌*◌, ◌≤◌, min, max};

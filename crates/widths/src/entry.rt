@@ -6,7 +6,7 @@ use lines::{part_at, read_numbers};
 const BEYOND: u32 = 0x110000;
 
 // The code points of a line, from `first` up to `end`, without that: none, if the line is malformed.
-#[derive(Drop)]
+#[derive(Clone, Copy)]
 pub(crate) struct Entry {
     pub(crate) well_formed: bool,
     pub(crate) first: u32,

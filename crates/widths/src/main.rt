@@ -6,6 +6,8 @@
 // Printed for each line are what stands before that blank and how many of the code points are wide, in decimal, or `malformed` for a line
 // of any other form, with its last code point before its first, or with one beyond 10FFFF. Then come the number of lines and of the wide
 // code points in them, and last the number of scalar values and of the wide ones among all of these.
+#![tactic(auto)]
+
 mod entry;
 mod tally;
 

@@ -3,7 +3,7 @@ ghost use Rattle.std.specs.Prelude.{◌≤◌};
 use fit::{BoxFit, box_fit};
 
 // How many lines or code points there are, and how many wide code points in them.
-#[derive(Drop)]
+#[derive(Clone, Copy)]
 pub(crate) struct Tally {
     pub(crate) count: u64,
     pub(crate) wide: u64,

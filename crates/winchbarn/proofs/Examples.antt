@@ -15,7 +15,7 @@ use Rattle.frame.specs.Numbers.{items, number_in}
 use Rattle.frame.specs.Reads.{ahead, contents, edit_of, first_list, read_form, text_of}
 use Rattle.frame.specs.Writes.{line_of}
 use Rattle.framed.specs.Calls.{frame_applied}
-use Rattle.hex.specs.Digits.{digit_of, hexed, is_digit, paired, unhexed, value_of}
+use Rattle.hexline.specs.Digits.{digit_of, hexed, is_digit, paired, unhexed, value_of}
 use Rattle.joins.specs.Turns.{gap_len}
 use Rattle.loading.specs.Loads.{framed_by, loaded}
 use Rattle.marking.specs.InOrder.{in_order}

@@ -6,7 +6,7 @@ use Rattle.utf8.specs.Calls.{decoded, encoded}
 use Rattle.text.specs.Rows.{at}
 use Rattle.text.specs.Calls.{clamped_in}
 use Rattle.fit.specs.Calls.{fits_in}
-use Rattle.hex.specs.Digits.{hexed}
+use Rattle.hexline.specs.Digits.{hexed}
 use Rattle.select.specs.Sels.{sel, is_caret, start, end, overlaps}
 use Rattle.edit.specs.declared.View.{View}
 use Rattle.edit.specs.Call.{lent}

@@ -1,4 +1,6 @@
 // The core's functions for C, as include/winchbarn.h declares them.
+#![tactic(auto)]
+
 ghost use Rattle.std.specs.Prelude.{◌≡◌};
 ghost use Rattle.utf8.specs.Reading.{reading};
 ghost use Rattle.utf8.specs.Calls.{decoded, encoded};

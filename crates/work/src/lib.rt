@@ -1,4 +1,6 @@
 // The one worker: an edit that rows 1 to 4 do not refuse is resolved into steps, summed, judged, recorded and stored.
+#![tactic(auto)]
+
 ghost use mathlib.Core.Path.{◌≡◌};
 ghost use mathlib.Core.Bool.{true, cond};
 ghost use Prim.Native.Nat.{◌+◌, ◌*◌, ◌≤◌};
@@ -25,7 +27,7 @@ use text::Position;
 use weave::commit;
 
 // The edit resolved, and how long the text and the inverse will be.
-#[derive(Drop)]
+#[derive(Clone, Copy)]
 struct Planned {
     found: Resolved,
     plan: Plan,
@@ -160,7 +162,7 @@ pub fn work(
 }
 
 // Where a payload that was put in starts and ends.
-#[derive(Drop)]
+#[derive(Clone, Copy)]
 struct Inserted {
     start: Position,
     end: Position,

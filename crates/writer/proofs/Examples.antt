@@ -4,7 +4,7 @@ use Rattle.edit.specs.Edits.{pieces}
 use Rattle.edit.specs.Refusals.{sum}
 use Rattle.frame.specs.Format.{chunk_bytes, column_bytes, edit_bytes, edit_chars, frame_bytes, frame_chars, has_bytes, has_frame, width_bytes}
 use Rattle.frame.specs.Writes.{line_of}
-use Rattle.hex.specs.Digits.{digit_of, hexed}
+use Rattle.hexline.specs.Digits.{digit_of, hexed}
 use Rattle.text.specs.Text.{all}
 use Rattle.utf8.specs.Calls.{stored}
 use Rattle.utf8.specs.Reading.{all_scalar, writing}

@@ -18,9 +18,9 @@ use Rattle.utf8.proofs.Writings.{counted-done}
 use Rattle.edit.specs.declared.Edit.{Edit}
 use Rattle.edit.specs.Edits.{whole}
 use Rattle.select.specs.declared.Sel.{Sel}
-use Rattle.hex.specs.Digits.{hexed}
-use Rattle.hex.specs.Calls.{digits_into}
-use Rattle.hex.proofs.Pairs.{hexed-length}
+use Rattle.hexline.specs.Digits.{hexed}
+use Rattle.hexline.specs.Calls.{digits_into}
+use Rattle.hexline.proofs.Pairs.{hexed-length}
 use Rattle.frame.specs.Format.{Frame, text, mark, edit, edit_bytes, frame_bytes, has_bytes, has_frame, edit_chars, frame_chars}
 use Rattle.frame.specs.Numbers.{position}
 use Rattle.frame.specs.Writes.{line_of}

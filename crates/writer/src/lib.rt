@@ -1,7 +1,9 @@
 // Frames written as lines: the frame's bytes first, then their digits.
+#![tactic(auto)]
+
 ghost use Rattle.std.specs.Prelude.{◌≡◌, ◌≤◌, length};
 ghost use Rattle.utf8.specs.Calls.{outcome, stored};
-ghost use Rattle.hex.specs.Digits.{hexed};
+ghost use Rattle.hexline.specs.Digits.{hexed};
 ghost use Rattle.edit.specs.Edits.{whole};
 ghost use Rattle.frame.specs.Format.{text, mark, edit as edit_frame};
 ghost use Rattle.writer.specs.Calls.{paper_written, written_into};
@@ -11,12 +13,12 @@ use encoding::encode;
 use frame::BYTE_LIMIT;
 use frame_bytes::{put_edit, put_position};
 use frame_size::{byte_count, has_bytes, octets_of};
-use hex::{Hexed, hex};
+use hexline::{Hexed, hex};
 use select::Sel;
 use utf8::{ByteOffset, Encoded, OctetCount};
 
 // How many digits were written to the front of the slice lent for them, or the refusal.
-#[derive(Drop)]
+#[derive(Clone, Copy)]
 pub enum Written {
     Digits(usize),
     Refused(Refusal),

@@ -1,0 +1,11 @@
+use mathlib.Core.Path.{refl}
+use Rattle.hexline.specs.Digits.{is_digit}
+use Rattle.hexline.proofs.is_digit.Statement.{statement}
+use Rattle.hexline.proofs.is_digit.Tie as tie
+
+returns : tie.Need-returns
+unfolding is_digit
+returns c = refl
+
+pub is-digit-spec : {M : Type 1} → statement M
+is-digit-spec = tie.close (tie.spec returns)
