@@ -39,6 +39,7 @@ module _ {A : Type 0} (lf : A → Bool) where
     where
       go : (b : Bool) → lf x ≡ b → (l : List (Line A)) → Broken l → Broken (cond b (line [] (x ∷ []) ∷ l) (onto x l))
       go true e l h = next [] x tt e h
+      go false e [] h = elim h [ ]
       go false e (r ∷ []) (final b p) = final (x ∷ b) (rw e p)
       go false e (r ∷ rs) (next b y p q h) = next (x ∷ b) y (rw e p) q h
 

@@ -1,0 +1,4 @@
+use Rattle.select.proofs.Selection.anchor.Goals as goal
+
+pub returns-in-Line : goal.returns-in-Line
+returns-in-Line c = rw c.in-Line.is
