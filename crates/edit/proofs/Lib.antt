@@ -13,5 +13,4 @@ pub mod Wides
 pub mod Demand3
 pub mod Theorems
 pub mod Samples
-pub mod Examples
 pub mod Workers
