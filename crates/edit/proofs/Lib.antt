@@ -13,4 +13,5 @@ pub mod Wides
 pub mod Demand3
 pub mod Theorems
 pub mod Samples
+pub mod Examples
 pub mod Workers

@@ -15,5 +15,5 @@ pub overflow_cast-found : goal.overflow_cast-found
 overflow_cast-found c = omega (arith, (found (goal.at.overflow_cast-found c).After-struct_known-1).0, (found (goal.at.overflow_cast-found c).After-struct_known-1).1, c.requires)
 
 pub returns : goal.returns
-returns c = let s = c.before.before.before.before.before.before in let f = c.find_row-found in
-    placed s.args.text.now s.args.pos f.result _ f.ensures c.min-col.ensures
+returns c = let f = c.find_row-found in
+    placed c.args.text.now c.args.pos f.result _ f.ensures c.min-col.ensures
