@@ -1,27 +1,14 @@
 use mathlib.Core.Logic.{⊎_elim}
-use mathlib.Core.Path.{◌≡◌, refl, sym, ap, ◌∙◌}
+use mathlib.Core.Path.{refl, sym, ap, ◌∙◌}
 use Prim.Native.Nat.{ℕ, ◌+◌, ◌≤◌, ◌-◌}
-use lib.ListN.{length, drop, get_or}
+use lib.ListN.{drop, get_or}
 use Rattle.promise.specs.Paper.{Paper, done}
 use Rattle.cells.specs.Cells.{cell_after}
 use Rattle.fit.proofs.Boxes.{walk, walk_rows, walk_end, walk_lf, walk_out, walk_on}
 use Rattle.fit.specs.Calls.{Fit, paper_box_fit}
-use Rattle.fit.specs.declared.BoxFit.TheVariants.{AllFit}
 use native.Mathlib.Omega.{arith}
 use borrow.Author.Rules.{rules}
 use Rattle.fit.proofs.first_over.Goals as goal
-
-abbrev invariant-cols : tie.invariant-cols
-invariant-cols text cells tab table answer₀ near₀ row i₀ col₀ cell₀ answer near i col cell = (i₀ ≤ i) × (i ≤ length text) × (col ≤ i) × (row ≤ i) × (cell ≤ cells) × (answer ≡ AllFit) × (walk cells tab row cell col (drop i text) ≡ walk cells tab 0 0 0 text)
-
-abbrev decreases-cols : tie.decreases-cols
-decreases-cols text cells tab table answer₀ near₀ row i₀ col₀ cell₀ answer near i col cell = length text - i
-
-abbrev invariant-rows : tie.invariant-rows
-invariant-rows text cells tab table answer₀ near₀ row₀ i₀ answer near row i = (i ≤ length text) × (row ≤ i) × (answer ≡ AllFit) × (walk cells tab row 0 0 (drop i text) ≡ walk cells tab 0 0 0 text)
-
-abbrev decreases-rows : tie.decreases-rows
-decreases-rows text cells tab table answer₀ near₀ row₀ i₀ answer near row i = length text - i
 
 pub rows-init : goal.rows-init
 rows-init c = (search rules, search rules, refl, refl)
