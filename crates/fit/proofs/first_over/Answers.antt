@@ -8,6 +8,7 @@ use Rattle.fit.proofs.Boxes.{walk, walk_rows, walk_end, walk_lf, walk_out, walk_
 use Rattle.fit.specs.Calls.{Fit, paper_box_fit}
 use native.Mathlib.Omega.{arith}
 use borrow.Author.Rules.{rules}
+use Rattle.fit.proofs.first_over.Goals.{else-cols-test, then-cols-test+then-text-i-eq-LF}
 use Rattle.fit.proofs.first_over.Goals as goal
 
 pub rows-init : goal.rows-init
@@ -34,7 +35,15 @@ cols-preserved c = let k = c.cols in let r = c.rows in let a = c.args in
 
 pub rows-preserved-then-i-text : goal.rows-preserved-then-i-text
 rows-preserved-then-i-text c = let k = c.cols in let r = c.rows in let a = c.args in
-    (omega arith, omega arith, k.invariant.5, ⊎_elim (λ w. absurd (omega arith)) (λ w. sym (walk_lf a.cells a.tab r.row k.cell k.col a.text.now k.i (omega arith) w.2.taken) ∙ k.invariant.6) c.cols-test.branch)
+    (
+      omega arith,
+      omega arith,
+      k.invariant.5,
+      elim c.cols-test.branch [
+        else-cols-test w ↦ absurd (omega arith)
+        | then-cols-test+then-text-i-eq-LF w ↦ sym (walk_lf a.cells a.tab r.row k.cell k.col a.text.now k.i (omega arith) w.if-text-i-eq-LF.true) ∙ k.invariant.6
+      ],
+    )
 
 pub rows-preserved : goal.rows-preserved
 rows-preserved c = let k = c.cols in let r = c.rows in let a = c.args in

@@ -23,7 +23,7 @@ abbrev Sizes : ℕ → ℕ → ℕ → ℕ → ℕ → ℕ → Type 0
 Sizes used left gap at len n = (1 ≤ used) × (left ≤ used) × (gap ≤ 1) × (at + 1 + len ≤ n)
 
 sizes : (c : After-join_turn-turn) → Sizes c.loop-at.used c.loop-at.left c.join_turn-turn.result.gap c.loop-at.at c.join_turn-turn.result.len (length c.args.text.now)
-sizes c = let a = c.args in let l = c.loop-at in planning_sizes a.text.now a.count a.spaced a.found.end.0 (a.found.end.0 - a.found.start.0) l.used l.at l.left l.made l.invariant.3 (inside c.before) c.join_turn-turn.result c.join_turn-turn.ensures a.found c.requires.1 refl refl
+sizes c = let a = c.args in let l = c.loop-at in planning_sizes a.text.now a.count a.spaced a.found.end.0 (a.found.end.0 - a.found.start.0) l.used l.at l.left l.made l.invariant.3 (on_inside l.at (length a.text.now) _ c.loop-at-test.true) c.join_turn-turn.result c.join_turn-turn.ensures a.found c.requires.1 refl refl
 
 pub overflow_sub-used : goal.overflow_sub-used
 overflow_sub-used c = omega (arith, sizes (goal.at.overflow_sub-used c).After-join_turn-turn)
