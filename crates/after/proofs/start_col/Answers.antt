@@ -17,13 +17,13 @@ starts : (c : After-struct_known-1) → let a = c.args in let f = c.find_row-fou
 starts c = let a = c.args in starts-walk a.text.now a.row.0 _ c.find_row-found.ensures (omega (arith, c.requires.2))
 
 inside : (c : In-loop-k) → c.loop-k.at < length c.args.text.now
-inside c = let a = c.args in let l = c.loop-k in let f = c.find_row-found.result in walks_inside a.text.now a.down a.spaced f.end.0 (f.end.0 - f.start.0) l.at l.left l.col l.k l.invariant.4 a.row.0 (starts c.before.before) c.requires.2 c.loop-k-test.true
+inside c = let a = c.args in let l = c.loop-k in let f = c.find_row-found.result in walks_inside a.text.now a.down a.spaced f.end.0 (f.end.0 - f.start.0) l.at l.left l.col l.k l.invariant.4 a.row.0 ((let a = c.args in starts-walk a.text.now a.row.0 _ c.find_row-found.ensures (omega (arith, c.requires.2)))) c.requires.2 c.loop-k-test.true
 
 abbrev Sizes : ℕ → ℕ → ℕ → ℕ → Type 0
 Sizes gap at len n = (gap ≤ 1) × (at + 1 + len ≤ n)
 
 sizes : (c : After-join_turn-turn) → Sizes c.join_turn-turn.result.gap c.loop-k.at c.join_turn-turn.result.len (length c.args.text.now)
-sizes c = let a = c.args in let l = c.loop-k in let q = turn_small a.text.now l.at l.left a.spaced c.join_turn-turn.result c.join_turn-turn.ensures in (q.0, omega (arith, q.1, inside c.before))
+sizes c = let a = c.args in let l = c.loop-k in let q = turn_small a.text.now l.at l.left a.spaced c.join_turn-turn.result c.join_turn-turn.ensures in (q.0, omega (arith, q.1, (let a = c.args in let l = c.loop-k in let f = c.find_row-found.result in walks_inside a.text.now a.down a.spaced f.end.0 (f.end.0 - f.start.0) l.at l.left l.col l.k l.invariant.4 a.row.0 ((let a = c.args in starts-walk a.text.now a.row.0 _ c.find_row-found.ensures (omega (arith, c.requires.2)))) c.requires.2 c.loop-k-test.true)))
 
 pub join_turn-turn-requires : goal.join_turn-turn-requires
 join_turn-turn-requires c = (inside (goal.at.join_turn-turn-requires c).In-loop-k, c.requires.0)
