@@ -25,7 +25,7 @@ pub slice_bounds-print_marks-start : goal.slice_bounds-print_marks-start
 slice_bounds-print_marks-start c = let a = c.args in omega (arith, c.print_text-size.ensures.1, (text-line a.script a.text.now a.marks.now c.requires.0).1, c.requires.1, c.out-1.given)
 
 pub print_marks-more-requires : goal.print_marks-more-requires
-print_marks-more-requires c = let a = c.args in let h = c.requires.0 in let p = c.print_text-size in (omega (arith, h.room, h.few), h.few, omega (arith, part_length p.new.1.0 p.result, p.ensures.1, (text-line a.script a.text.now a.marks.now h).1, c.requires.1, c.out-1.given))
+print_marks-more-requires c = let a = c.args in let h = c.requires.0 in let p = c.print_text-size in (omega (arith, h.room, h.few), h.few, omega (arith, part_length p.new.out p.result, p.ensures.1, (text-line a.script a.text.now a.marks.now h).1, c.requires.1, c.out-1.given))
 
 pub overflow_add-result : goal.overflow_add-result
 overflow_add-result c = let a = c.args in omega (arith, c.print_text-size.ensures.1, (text-line a.script a.text.now a.marks.now c.requires.0).1, c.print_marks-more.ensures.2)
