@@ -6,17 +6,20 @@ mod streams;
 
 ghost use Rattle.std.specs.Prelude.{false, ◌≡◌, ◌≤◌, length, take};
 ghost use Rattle.promise.specs.Slices.{over};
-ghost use Rattle.io.specs.Counts.{clamp_len};
 ghost use Rattle.loading.specs.States.{state_of, script_of, opening as start};
 ghost use Rattle.step.specs.Calls.{Ready};
 ghost use Rattle.feed.specs.Feeds.{fed_by, closing};
-ghost use Rattle.scriptrun.specs.Runs.{Come, Stands};
+ghost use Rattle.scriptrun.specs.Runs.{Come, Stands, brought};
 
-use crate::streams::{is_to_try_again, print};
+use crate::streams::{Streams, fail, is_to_try_again, print};
 use feed::{HELD_ROOM, close, feed};
-use libc::STDIN_FILENO;
 use loading::Script;
+use std::io;
+use std::io::{ErrorKind, Read};
 use step::{MARK_ROOM, TEXT_ROOM, opening};
+
+// How much one read may bring.
+const INPUT_ROOM: usize = 65_536;
 
 // The script, how much of a line is held, whether more of the input is to be read, and whether nothing has failed.
 #[derive(Clone, Copy)]
@@ -29,6 +32,7 @@ struct Stand {
 
 // Every byte is fed, in order and once, and what they print is written.
 fn take_bytes(
+    streams: Streams,
     stand: Stand,
     bytes: &[u8],
     line: &mut [u8],
@@ -48,7 +52,7 @@ fn take_bytes(
     while at < bytes.len() {
         let course = feed(current, pending, line, &bytes[at..], text, marks, out);
         let size = course.printed;
-        sound = print(&out[0..size], sound);
+        sound = print(streams, &out[0..size], sound);
         current = course.script;
         pending = course.pending;
         at += course.taken;
@@ -62,49 +66,49 @@ fn take_bytes(
 }
 
 // The input cannot be read to its end.
-fn fail_reading(stand: Stand) -> Stand
+fn fail_reading(streams: Streams, stand: Stand, error: io::Error) -> Stand
     ensures { (result.script ≡ stand.script) × (result.pending ≡ stand.pending) × (result.open ≡ false) }
 {
-    os::fail(b"scriptrun: standard input");
-    let script = stand.script;
+    fail(streams, "standard input", error);
     Stand {
-        script,
-        pending: stand.pending,
         open: false,
         sound: false,
+        ..stand
     }
 }
 
 // Where a read brought nothing: the input has ended, or the read is to be made again, or it failed.
-fn take_nothing(stand: Stand, got: isize) -> Stand
+fn take_nothing(streams: Streams, stand: Stand, got: io::Result<usize>) -> Stand
     ensures { (result.script ≡ stand.script) × (result.pending ≡ stand.pending) }
 {
-    let script = stand.script;
-    let pending = stand.pending;
-    let sound = stand.sound;
-    if got == 0 {
-        return Stand {
-            script,
-            pending,
+    match got {
+        Ok(_) => Stand {
             open: false,
-            sound,
-        };
-    }
-    if is_to_try_again() {
-        return Stand {
-            script,
-            pending,
+            ..stand
+        },
+        Err(error) if is_to_try_again(error) => Stand {
             open: true,
-            sound,
-        };
+            ..stand
+        },
+        Err(error) => fail_reading(streams, stand, error),
     }
-    fail_reading(stand)
+}
+
+// How many bytes of `input` a read brought.
+fn brought(got: io::Result<usize>, input: &[u8]) -> usize
+    ensures { result ≡ brought got (length input.now) }
+{
+    match got {
+        Ok(count) => count.min(input.len()),
+        Err(_) => 0,
+    }
 }
 
 // What a read answered and put in front of `input`: every byte of it is fed, and no other.
 fn take_read(
+    streams: Streams,
     stand: Stand,
-    got: isize,
+    got: io::Result<usize>,
     input: &[u8],
     line: &mut [u8],
     text: &mut [u32],
@@ -114,17 +118,18 @@ fn take_read(
     requires ready { Ready stand.script text.old marks.old × (stand.pending ≤ 36_865) × (36_865 ≤ length line.old) × (36_867 ≤ length out.old) }
     requires come { Come (state_of stand.script text.old marks.old) (take stand.pending line.old) }
     ensures ready_2 { Ready result.script text.new marks.new × (result.pending ≤ 36_865) }
-    ensures stands { Stands (state_of result.script text.new marks.new) (take result.pending line.new) (fed_by (state_of stand.script text.old marks.old) (take stand.pending line.old) (take (clamp_len got (length input.now)) input.now)) }
+    ensures stands { Stands (state_of result.script text.new marks.new) (take result.pending line.new) (fed_by (state_of stand.script text.old marks.old) (take stand.pending line.old) (take (brought got (length input.now)) input.now)) }
 {
-    let count = io::count(got, input);
+    let count = brought(got, input);
     if count == 0 {
-        return take_nothing(stand, got);
+        return take_nothing(streams, stand, got);
     }
-    take_bytes(stand, &input[0..count], line, text, marks, out)
+    take_bytes(streams, stand, &input[0..count], line, text, marks, out)
 }
 
 // One read into `input`, and what comes of it.
 fn read_some(
+    streams: Streams,
     stand: Stand,
     input: &mut [u8],
     line: &mut [u8],
@@ -137,12 +142,14 @@ fn read_some(
     ensures ready_2 { Ready result.script text.new marks.new × (result.pending ≤ 36_865) }
     ensures come_2 { Come (state_of result.script text.new marks.new) (take result.pending line.new) }
 {
-    let got = libc::read(STDIN_FILENO, input);
-    take_read(stand, got, input, line, text, marks, out)
+    let mut source = streams.input;
+    let got = source.read(input);
+    take_read(streams, stand, got, input, line, text, marks, out)
 }
 
 // All of the input. A proved loop has to end, so it counts its turns down from a number that no input uses up.
 fn read_all(
+    streams: Streams,
     stand: Stand,
     input: &mut [u8],
     line: &mut [u8],
@@ -162,10 +169,10 @@ fn read_all(
         if !read.open {
             return read;
         }
-        read = read_some(read, input, line, text, marks, out);
+        read = read_some(streams, read, input, line, text, marks, out);
         turns -= 1;
     }
-    fail_reading(read)
+    fail_reading(streams, read, io::Error::from(ErrorKind::TimedOut))
 }
 
 // What is printed at the end of the input.
@@ -179,7 +186,14 @@ fn end(stand: Stand, text: &[u32], marks: &[u32], out: &mut [u8]) -> usize
 }
 
 // The script from its opening to its ending.
-fn run(input: &mut [u8], line: &mut [u8], text: &mut [u32], marks: &mut [u32], out: &mut [u8])
+fn run(
+    streams: Streams,
+    input: &mut [u8],
+    line: &mut [u8],
+    text: &mut [u32],
+    marks: &mut [u32],
+    out: &mut [u8],
+)
     requires { Ready (script_of start) text.old marks.old × (state_of (script_of start) text.old marks.old ≡ start) × (36_865 ≤ length line.old) × (39_110 ≤ length out.old) }
 {
     let first = Stand {
@@ -188,16 +202,23 @@ fn run(input: &mut [u8], line: &mut [u8], text: &mut [u32], marks: &mut [u32], o
         open: true,
         sound: true,
     };
-    let last = read_all(first, input, line, text, marks, out);
+    let last = read_all(streams, first, input, line, text, marks, out);
     let size = end(last, text, marks, out);
-    print(&out[0..size], last.sound);
+    print(streams, &out[0..size], last.sound);
 }
 
-fn main() {
-    let mut input = io::large_buffer();
+fn main(rt: HostRuntime) {
+    let streams = Streams {
+        input: rt.stdin(),
+        output: rt.stdout(),
+        errors: rt.stderr(),
+    };
+    let mut input = [0u8; INPUT_ROOM];
     let mut line = [0u8; HELD_ROOM];
     let mut text = [0u32; TEXT_ROOM];
     let mut marks = [0u32; MARK_ROOM];
     let mut out = [0u8; 131_072];
-    run(&mut input, &mut line, &mut text, &mut marks, &mut out);
+    run(
+        streams, &mut input, &mut line, &mut text, &mut marks, &mut out,
+    );
 }

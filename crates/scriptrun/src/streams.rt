@@ -1,70 +1,80 @@
 // Standard input and output, whatever they are: a call that could not be done yet is made again.
-ghost use Rattle.std.specs.Prelude.{◌≤◌, length};
+ghost use Rattle.std.specs.Prelude.{◌≤◌, length, IfOk};
 ghost use Rattle.scriptrun.specs.Runs.{Prints};
 
-use libc::STDOUT_FILENO;
+use std::fmt::InlineText;
+use std::io::{Eprint, ErrorKind, Stderr, Stdin, Stdout, Write};
+use std::{io, thread};
 
-// Whether the call that failed last is to be made again: a signal came, or nothing could be read or written yet. Others are let run first.
-pub fn is_to_try_again() -> bool {
-    let error = os::errno();
-    if error == libc::EINTR {
-        return true;
-    }
-    if error != libc::EAGAIN {
-        return false;
-    }
-    libc::sched_yield();
-    true
-}
-
-// How many bytes a write took, and whether it failed.
 #[derive(Clone, Copy)]
-struct Wrote {
-    count: usize,
-    failed: bool,
+pub struct Streams {
+    pub input: Stdin,
+    pub output: Stdout,
+    pub errors: Stderr,
 }
 
-fn write_some(bytes: &[u8]) -> Wrote
-    ensures { result.count ≤ length bytes.now }
-{
-    let put = libc::write(STDOUT_FILENO, bytes);
-    if put < 0 {
-        return Wrote {
-            count: 0,
-            failed: !is_to_try_again(),
-        };
+// Whether the call that failed is to be made again: a signal came, or nothing could be read or written yet. Others are let run first.
+pub fn is_to_try_again(error: io::Error) -> bool {
+    match error.kind() {
+        ErrorKind::Interrupted => true,
+        ErrorKind::WouldBlock => {
+            thread::yield_now();
+            true
+        }
+        _ => false,
     }
-    Wrote {
-        count: io::count(put, bytes),
-        failed: false,
+}
+
+// A line on standard error: what failed, and the system's words for why, without the number that std puts behind them.
+pub fn fail(streams: Streams, what: &str, error: io::Error) {
+    let text = InlineText::<128>::of(error);
+    let whole = text.as_str();
+    let why = match whole.split_once(" (os error ") {
+        Some((words, _)) => words,
+        None => whole,
+    };
+    let _ = eprintln!(streams.errors; "scriptrun: {what}: {why}");
+}
+
+// How many bytes a write took, none where it is to be made again.
+fn write_some(streams: Streams, bytes: &[u8]) -> io::Result<usize>
+    ensures { IfOk result (λ count. count ≤ length bytes.now) }
+{
+    let mut output = streams.output;
+    match output.write(bytes) {
+        Err(error) if is_to_try_again(error) => Ok(0),
+        taken => taken,
     }
 }
 
 // Writes all of them, and answers whether that went well. The loop counts its turns down, as that of `read_all` does.
-fn write_on(bytes: &[u8]) -> bool {
+fn write_on(streams: Streams, bytes: &[u8]) -> bool {
     let mut done = 0;
+    let mut failure = io::Error::from(ErrorKind::TimedOut);
     let mut turns = u64::MAX;
     while turns > 0 {
         if bytes.len() <= done {
             return true;
         }
-        let wrote = write_some(&bytes[done..]);
-        if wrote.failed {
-            break;
+        match write_some(streams, &bytes[done..]) {
+            Ok(count) => done += count,
+            Err(error) => {
+                failure = error;
+                break;
+            }
         }
-        done += wrote.count;
         turns -= 1;
     }
-    os::fail(b"scriptrun: standard output");
+    fail(streams, "standard output", failure);
     false
 }
 
 // Writes what the script printed, unless something has failed before; whether nothing has.
-pub fn print(bytes: &[u8], sound: bool) -> bool
+pub fn print(streams: Streams, bytes: &[u8], sound: bool) -> bool
     requires { Prints bytes.now }
 {
     if !sound {
         return false;
     }
-    write_on(bytes)
+    write_on(streams, bytes)
 }
