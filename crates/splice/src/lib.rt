@@ -11,7 +11,7 @@ use text::CharOffset;
 pub const SPACE: u32 = 32;
 
 // Moves the first `count` places up by `by`.
-fn shift_up(tail: &mut [u32], count: usize, by: usize)
+pub fn shift_up(tail: &mut [u32], count: usize, by: usize)
     requires { by + count ≤ length tail.old }
     ensures { tail.new ≡ paste tail.old by tail.old count }
 {
@@ -23,7 +23,7 @@ fn shift_up(tail: &mut [u32], count: usize, by: usize)
 }
 
 // Moves the `count` places from `by` on down to the front.
-fn shift_down(tail: &mut [u32], count: usize, by: usize)
+pub fn shift_down(tail: &mut [u32], count: usize, by: usize)
     requires { by + count ≤ length tail.old }
     ensures { tail.new ≡ take count (drop by tail.old) ++ drop count tail.old }
 {
