@@ -1,9 +1,10 @@
 -- The examples and the sample run, computed.
-use mathlib.Core.Path.{◌≡◌, refl, ◌∙◌, ap}
+use mathlib.Core.Path.{◌≡◌, refl, sym, ◌∙◌, ap, subst}
 use native.Mathlib.Omega.{arith}
 use mathlib.Core.List.{List, [], ◌∷◌, map, flatten}
 use mathlib.Core.Bool.{true}
 use Prim.Native.Nat.{ℕ}
+use lib.ListN.{drop}
 use Rattle.promise.specs.Paper.{done}
 use Rattle.utf8.specs.Rfc3629.{scalar}
 use Rattle.text.specs.Rows.{onto, lines, unlines, row_count, last_row, row_len, row_start, clamp, offset, end_of, in_text}
@@ -52,42 +53,108 @@ pub room_filled : RoomFilled
 unfolding onto lines unlines row_count last_row row_len row_start clamp offset end_of in_text admissible all text_ok renewed scalar flatten inserted chars_deleted line_from line_to lines_deleted replaced gap join_row join_cols join_flags put put_all pads_of pieces cut_all chunks_of any_flag joined unspace split_first split_row split block_inserted chunks_deleted range_deleted edited_by sum small_range small_ok few_rows few_ok payload_ok within_first within_all within_ok room_ok record_ok wide first_of result_of leaves applied range_undoable is_undoable undoable
 room_filled = record { lists = refl; payload = refl }
 
--- ---- the sample: each edit's answer is computed at the state that the edits before it leave
+-- ---- the sample: each edit is computed on its own, at the state that the edits before it leave
 
-data Passes : State → List (Whole ℕ) → List Beside → Type 0 where
-  none : {s : State} → Passes s [] []
-  more : {s : State} {w : Whole ℕ} {o : Beside} {ws : List (Whole ℕ)} {os : List Beside} → (called s w o).answer ≡ done (applied_as (view_at s o) (doing w (text s)))
-      → undoable (view_at s o) w.edit (lent_at s w o) ≡ done true → Passes (next s w) ws os → Passes s (w ∷ ws) (o ∷ os)
+data Passes : State → List (Whole ℕ) → List Beside → List State → Type 0 where
+  none : {s : State} → Passes s [] [] (s ∷ [])
+  more : {s u : State} {w : Whole ℕ} {o : Beside} {ws : List (Whole ℕ)} {os : List Beside} {us : List State} → Passes u ws os us → next s w ≡ u
+      → (called s w o).answer ≡ done (applied_as (view_at s o) (doing w (text s))) → undoable (view_at s o) w.edit (lent_at s w o) ≡ done true
+      → Passes s (w ∷ ws) (o ∷ os) (s ∷ us)
 
 -- the run, and what each call was handed beside
 record RanBeside (s : State) (ws : List (Whole ℕ)) (os : List Beside) : Type 0 where
   ran : Ran Undoable s ws
   its_besides : besides ran.run ≡ os
 
-ran-beside : (s : State) (ws : List (Whole ℕ)) (os : List Beside) → Passes s ws os → RanBeside s ws os
+ran-beside : {s : State} {ws : List (Whole ℕ)} {os : List Beside} {us : List State} → Passes s ws os us → RanBeside s ws os
 unfolding besides ran-none ran-more
-ran-beside s [] [] none = record { ran = ran-none s; its_besides = refl }
-ran-beside s (w ∷ ws) (o ∷ os) (more e u p) =
-    let a : Applied = applied_as (view_at s o) (doing w (text s)) in
-    let c = once_called s w o a e in
-    let h : Undoable s w (next s w) (doing w (text s)).inverse = (o, (a, e, c.state, c.inverse), u) in
-    let r = ran-beside (next s w) ws os p in
+ran-beside (none {s = s}) = record { ran = ran-none s; its_besides = refl }
+ran-beside (more {s = s} {w = w} {o = o} {ws = ws} {os = os} p e a y) =
+    let b : Applied = applied_as (view_at s o) (doing w (text s)) in
+    let c = once_called s w o b a in
+    let h : Undoable s w (next s w) (doing w (text s)).inverse = (o, (b, a, c.state, c.inverse), y) in
+    let r : RanBeside (next s w) ws os = subst (λ (x : State). RanBeside x ws os) (sym e) (ran-beside p) in
     record { ran = ran-more (doing w (text s)).inverse h r.ran; its_besides = ap {B = List Beside} (λ l. o ∷ l) r.its_besides }
+
+passed_states : {s : State} {ws : List (Whole ℕ)} {os : List Beside} {us : List State} → Passes s ws os us → states_from s ws ≡ us
+unfolding states_from
+passed_states none = refl
+passed_states (more {s = s} {ws = ws} {us = us} p e a y) =
+    ap {B = List State} (λ l. s ∷ l) (subst (λ (x : State). states_from x ws ≡ us) (sym e) (passed_states p))
 
 abbrev start : State
 start = opened (97 ∷ 98 ∷ 10 ∷ 99 ∷ [])
 
-passes : Passes start sample_edits sample_besides
+-- the states that the edits leave, one after another
+abbrev state_1 : State
+state_1 = record { used = 6; buffer = 97 ∷ 88 ∷ 10 ∷ 98 ∷ 10 ∷ 99 ∷ 7 ∷ 7 ∷ 7 ∷ 7 ∷ 7 ∷ 7 ∷ 7 ∷ 7 ∷ 7 ∷ 7 ∷ [] }
+
+abbrev state_2 : State
+state_2 = record { used = 3; buffer = 97 ∷ 88 ∷ 10 ∷ 0 ∷ 0 ∷ 0 ∷ 7 ∷ 7 ∷ 7 ∷ 7 ∷ 7 ∷ 7 ∷ 7 ∷ 7 ∷ 7 ∷ 7 ∷ [] }
+
+abbrev state_3 : State
+state_3 = record { used = 4; buffer = 97 ∷ 89 ∷ 10 ∷ 90 ∷ 0 ∷ 0 ∷ 7 ∷ 7 ∷ 7 ∷ 7 ∷ 7 ∷ 7 ∷ 7 ∷ 7 ∷ 7 ∷ 7 ∷ [] }
+
+abbrev state_4 : State
+state_4 = record { used = 8; buffer = 97 ∷ 89 ∷ 32 ∷ 120 ∷ 10 ∷ 90 ∷ 32 ∷ 32 ∷ 7 ∷ 7 ∷ 7 ∷ 7 ∷ 7 ∷ 7 ∷ 7 ∷ 7 ∷ [] }
+
+abbrev state_5 : State
+state_5 = record { used = 8; buffer = 97 ∷ 89 ∷ 32 ∷ 120 ∷ 32 ∷ 90 ∷ 32 ∷ 32 ∷ 7 ∷ 7 ∷ 7 ∷ 7 ∷ 7 ∷ 7 ∷ 7 ∷ 7 ∷ [] }
+
+abbrev state_6 : State
+state_6 = record { used = 9; buffer = 97 ∷ 89 ∷ 10 ∷ 32 ∷ 120 ∷ 32 ∷ 90 ∷ 32 ∷ 32 ∷ 7 ∷ 7 ∷ 7 ∷ 7 ∷ 7 ∷ 7 ∷ 7 ∷ [] }
+
+abbrev state_7 : State
+state_7 = record { used = 7; buffer = 97 ∷ 10 ∷ 32 ∷ 32 ∷ 90 ∷ 32 ∷ 32 ∷ 0 ∷ 0 ∷ 7 ∷ 7 ∷ 7 ∷ 7 ∷ 7 ∷ 7 ∷ 7 ∷ [] }
+
+abbrev state_8 : State
+state_8 = record { used = 1; buffer = 97 ∷ 0 ∷ 0 ∷ 0 ∷ 0 ∷ 0 ∷ 0 ∷ 0 ∷ 0 ∷ 7 ∷ 7 ∷ 7 ∷ 7 ∷ 7 ∷ 7 ∷ 7 ∷ [] }
+
+abbrev sample_states : List State
+sample_states = start ∷ state_1 ∷ state_2 ∷ state_3 ∷ state_4 ∷ state_5 ∷ state_6 ∷ state_7 ∷ state_8 ∷ []
+
+-- the edits from each state on
+passes_8 : Passes state_8 [] [] (drop 8 sample_states)
+passes_8 = none
+
+passes_7 : Passes state_7 (drop 7 sample_edits) (drop 7 sample_besides) (drop 7 sample_states)
 unfolding onto lines unlines row_count last_row row_len row_start clamp offset end_of in_text admissible all text_ok renewed scalar flatten inserted chars_deleted line_from line_to lines_deleted replaced gap join_row join_cols join_flags put put_all pads_of pieces cut_all chunks_of any_flag joined unspace split_first split_row split block_inserted chunks_deleted range_deleted edited_by sum small_range small_ok few_rows few_ok payload_ok within_first within_all within_ok room_ok record_ok wide first_of result_of leaves applied range_undoable is_undoable undoable
-passes = more refl refl (more refl refl (more refl refl (more refl refl (more refl refl (more refl refl (more refl refl (more refl refl none)))))))
+passes_7 = more passes_8 refl refl refl
+
+passes_6 : Passes state_6 (drop 6 sample_edits) (drop 6 sample_besides) (drop 6 sample_states)
+unfolding onto lines unlines row_count last_row row_len row_start clamp offset end_of in_text admissible all text_ok renewed scalar flatten inserted chars_deleted line_from line_to lines_deleted replaced gap join_row join_cols join_flags put put_all pads_of pieces cut_all chunks_of any_flag joined unspace split_first split_row split block_inserted chunks_deleted range_deleted edited_by sum small_range small_ok few_rows few_ok payload_ok within_first within_all within_ok room_ok record_ok wide first_of result_of leaves applied range_undoable is_undoable undoable
+passes_6 = more passes_7 refl refl refl
+
+passes_5 : Passes state_5 (drop 5 sample_edits) (drop 5 sample_besides) (drop 5 sample_states)
+unfolding onto lines unlines row_count last_row row_len row_start clamp offset end_of in_text admissible all text_ok renewed scalar flatten inserted chars_deleted line_from line_to lines_deleted replaced gap join_row join_cols join_flags put put_all pads_of pieces cut_all chunks_of any_flag joined unspace split_first split_row split block_inserted chunks_deleted range_deleted edited_by sum small_range small_ok few_rows few_ok payload_ok within_first within_all within_ok room_ok record_ok wide first_of result_of leaves applied range_undoable is_undoable undoable
+passes_5 = more passes_6 refl refl refl
+
+passes_4 : Passes state_4 (drop 4 sample_edits) (drop 4 sample_besides) (drop 4 sample_states)
+unfolding onto lines unlines row_count last_row row_len row_start clamp offset end_of in_text admissible all text_ok renewed scalar flatten inserted chars_deleted line_from line_to lines_deleted replaced gap join_row join_cols join_flags put put_all pads_of pieces cut_all chunks_of any_flag joined unspace split_first split_row split block_inserted chunks_deleted range_deleted edited_by sum small_range small_ok few_rows few_ok payload_ok within_first within_all within_ok room_ok record_ok wide first_of result_of leaves applied range_undoable is_undoable undoable
+passes_4 = more passes_5 refl refl refl
+
+passes_3 : Passes state_3 (drop 3 sample_edits) (drop 3 sample_besides) (drop 3 sample_states)
+unfolding onto lines unlines row_count last_row row_len row_start clamp offset end_of in_text admissible all text_ok renewed scalar flatten inserted chars_deleted line_from line_to lines_deleted replaced gap join_row join_cols join_flags put put_all pads_of pieces cut_all chunks_of any_flag joined unspace split_first split_row split block_inserted chunks_deleted range_deleted edited_by sum small_range small_ok few_rows few_ok payload_ok within_first within_all within_ok room_ok record_ok wide first_of result_of leaves applied range_undoable is_undoable undoable
+passes_3 = more passes_4 refl refl refl
+
+passes_2 : Passes state_2 (drop 2 sample_edits) (drop 2 sample_besides) (drop 2 sample_states)
+unfolding onto lines unlines row_count last_row row_len row_start clamp offset end_of in_text admissible all text_ok renewed scalar flatten inserted chars_deleted line_from line_to lines_deleted replaced gap join_row join_cols join_flags put put_all pads_of pieces cut_all chunks_of any_flag joined unspace split_first split_row split block_inserted chunks_deleted range_deleted edited_by sum small_range small_ok few_rows few_ok payload_ok within_first within_all within_ok room_ok record_ok wide first_of result_of leaves applied range_undoable is_undoable undoable
+passes_2 = more passes_3 refl refl refl
+
+passes_1 : Passes state_1 (drop 1 sample_edits) (drop 1 sample_besides) (drop 1 sample_states)
+unfolding onto lines unlines row_count last_row row_len row_start clamp offset end_of in_text admissible all text_ok renewed scalar flatten inserted chars_deleted line_from line_to lines_deleted replaced gap join_row join_cols join_flags put put_all pads_of pieces cut_all chunks_of any_flag joined unspace split_first split_row split block_inserted chunks_deleted range_deleted edited_by sum small_range small_ok few_rows few_ok payload_ok within_first within_all within_ok room_ok record_ok wide first_of result_of leaves applied range_undoable is_undoable undoable
+passes_1 = more passes_2 refl refl refl
+
+passes : Passes start sample_edits sample_besides sample_states
+unfolding onto lines unlines row_count last_row row_len row_start clamp offset end_of in_text admissible all text_ok renewed scalar flatten inserted chars_deleted line_from line_to lines_deleted replaced gap join_row join_cols join_flags put put_all pads_of pieces cut_all chunks_of any_flag joined unspace split_first split_row split block_inserted chunks_deleted range_deleted edited_by sum small_range small_ok few_rows few_ok payload_ok within_first within_all within_ok room_ok record_ok wide first_of result_of leaves applied range_undoable is_undoable undoable
+passes = more passes_1 refl refl refl
 
 sample-texts : map text (states_from start sample_edits) ≡ sample_texts
-unfolding states_from onto lines unlines row_count last_row row_len row_start clamp offset end_of in_text admissible all text_ok renewed scalar flatten inserted chars_deleted line_from line_to lines_deleted replaced gap join_row join_cols join_flags put put_all pads_of pieces cut_all chunks_of any_flag joined unspace split_first split_row split block_inserted chunks_deleted range_deleted edited_by sum small_range small_ok few_rows few_ok payload_ok within_first within_all within_ok room_ok record_ok wide first_of result_of leaves applied range_undoable is_undoable undoable
-sample-texts = refl
+sample-texts = ap (map text) (passed_states passes)
 
 pub sample-run : SampleRun
 sample-run =
-    let b = ran-beside start sample_edits sample_besides passes in
+    let b = ran-beside passes in
     let r = b.ran in
     let k = run-held 16 r.run (record { long = refl; within = omega arith }) in
     record {

@@ -16,7 +16,7 @@ pub bounds-out-i : goal.bounds-out-i
 bounds-out-i c = omega (arith, unhexed-length c.args.line.now)
 
 pub loop-i-preserved : goal.loop-i-preserved
-loop-i-preserved c = let l = c.loop-i in (refl, omega arith, simp length-set (omega arith), bytes_again _ _ _ l.i l.invariant.3 _ _ c.value_of-high.ensures.0 c.value_of-low.ensures.0 c.loop-i-test.true c.requires.1)
+loop-i-preserved c = let l = c.loop-i in (refl, omega arith, simp length-set (omega arith), bytes_again _ _ _ l.i l.invariant.3 _ _ c.value_of-high.ensures.value c.value_of-low.ensures.value c.loop-i-test.true c.requires.1)
 
 pub returns : goal.returns
 returns c = let l = c.loop-i in bytes_all _ _ _ l.i l.invariant.3 l.invariant.1 c.loop-i-test.false

@@ -12,8 +12,9 @@ overflow_sub-result-else-c-le57 c = let k = high_digit _ c.requires c.if-c-le57.
 
 pub returns-then-c-le57 : goal.returns-then-c-le57
 unfolding value_of
-returns-then-c-le57 c = (rw (le-leb _ _ c.if-c-le57.true), omega arith)
+returns-then-c-le57 c = record { value = rw (le-leb _ _ c.if-c-le57.true); upper_bound = omega arith }
 
 pub returns-else-c-le57 : goal.returns-else-c-le57
 unfolding value_of
-returns-else-c-le57 c = (rw (lt-leb _ _ c.if-c-le57.false), let k = high_digit _ c.requires c.if-c-le57.false in omega arith)
+returns-else-c-le57 c =
+    let k = high_digit _ c.requires c.if-c-le57.false in record { value = rw (lt-leb _ _ c.if-c-le57.false); upper_bound = omega arith }

@@ -1,4 +1,3 @@
-use mathlib.Core.Logic.{⊎_elim}
 use mathlib.Core.Path.{ap}
 use Prim.Native.Nat.{◌+◌, ◌-◌}
 use native.Mathlib.Omega.{arith}
@@ -7,6 +6,7 @@ use Rattle.text.proofs.Laws.{start_first}
 use Rattle.text.proofs.Scans.{start-at-lf, start-at-other, start-at-end}
 use Rattle.text.specs.Rows.{row_start}
 use Rattle.text.specs.Text.{is_lf}
+use Rattle.rows.proofs.scan_to_row.Goals.{then-text-i-eq-LF, else-text-i-eq-LF}
 use Rattle.rows.proofs.scan_to_row.Goals as goal
 
 pub loop-i-init : goal.loop-i-init
@@ -19,8 +19,10 @@ returns-then-above-eq0 c = let l = c.loop-i in let t = drop l.i c.args.text.now 
 pub loop-i-preserved : goal.loop-i-preserved
 loop-i-preserved c = let s = c.args.text.now in let l = c.loop-i in
     let h = c.loop-i-test.true in let z = c.if-above-eq0.false in
-    ⊎_elim (λ w. omega (arith, start-at-lf s l.i h l.above z w.0.taken, ap (row_start is_lf (drop (l.i + 1) s)) w.1))
-    (λ w. omega (arith, start-at-other s l.i h l.above z w.0.left, ap (row_start is_lf (drop (l.i + 1) s)) w.1)) c.if-text-i-eq-LF.branch
+    elim c.if-text-i-eq-LF.branch [
+      then-text-i-eq-LF w ↦ omega (arith, start-at-lf s l.i h l.above z w.if-text-i-eq-LF.true, ap (row_start is_lf (drop (l.i + 1) s)) w.above-is)
+      | else-text-i-eq-LF w ↦ omega (arith, start-at-other s l.i h l.above z w.if-text-i-eq-LF.false, ap (row_start is_lf (drop (l.i + 1) s)) w.above-is)
+    ]
 
 pub returns : goal.returns
 returns c = let l = c.loop-i in omega (arith, start-at-end c.args.text.now l.i c.loop-i-test.false l.above)

@@ -1,0 +1,31 @@
+use mathlib.Core.Path.{◌∙◌, ap}
+use mathlib.Core.Bool.{true}
+use native.Mathlib.Omega.{arith}
+use lib.ListN.{take}
+use Rattle.text.specs.Text.{is_lf}
+use Rattle.edit.specs.Call.{lent}
+use Rattle.edit.proofs.Workers.{worked_fits, worked_refused, worked_leaves}
+use Rattle.edit.specs.declared.Plan.{Plan}
+use Rattle.edit.specs.Edits.{lines_deleted}
+use Rattle.flat.proofs.Deleting.{line-within, line-plan, line-done}
+use Rattle.flat.proofs.delete_lines.Goals as goal
+
+pub overflow_sub-gone : goal.overflow_sub-gone
+overflow_sub-gone c = let a = c.args in let w = line-within a.view a.text.now a.start a.end c.requires.0 _ c.line_cut-rows.ensures in w.0
+
+pub overflow_sub-left : goal.overflow_sub-left
+overflow_sub-left c = let a = c.args in let w = line-within a.view a.text.now a.start a.end c.requires.0 _ c.line_cut-rows.ensures in omega (arith, w.0, w.1)
+
+pub returns-in-Bad : goal.returns-in-Bad
+returns-in-Bad c = let a = c.args in
+    λ x f y of os same. worked_refused true a.room (lines_deleted is_lf (take a.view.used a.text.now) a.start a.end) _ (c.judge_flat-verdict.ensures (lines_deleted is_lf (take a.view.used a.text.now) a.start a.end) (line-plan a.view a.text.now a.start a.end c.requires.0 _ c.line_cut-rows.ensures)) a.view (lent a.text.now x f y a.out.now of os) same _ c.in-Bad.is
+
+pub close_gap-requires : goal.close_gap-requires
+close_gap-requires c = let a = c.args in
+    let w = line-within a.view a.text.now a.start a.end c.requires.0 _ c.line_cut-rows.ensures in let q = line-plan a.view a.text.now a.start a.end c.requires.0 _ c.line_cut-rows.ensures in let f = worked_fits true a.room (lines_deleted is_lf (take a.view.used a.text.now) a.start a.end) _ (c.judge_flat-verdict.ensures (lines_deleted is_lf (take a.view.used a.text.now) a.start a.end) q) c.in_default.is in
+    (w.0, w.1, c.requires.0, omega (arith, f.payload, ap (λ (z : Plan). z.payload) q, c.requires.3))
+
+pub returns : goal.returns
+returns c = let a = c.args in
+    λ x f y of os same. line-done a.view a.text.now a.start a.end c.requires.0 _ c.line_cut-rows.ensures _ _ _ a.out.now _ _ c.close_gap.ensures c.last_row.ensures c.min-row.ensures c.next_view.ensures x f y of os
+    ∙ worked_leaves true a.room (lines_deleted is_lf (take a.view.used a.text.now) a.start a.end) _ (c.judge_flat-verdict.ensures (lines_deleted is_lf (take a.view.used a.text.now) a.start a.end) (line-plan a.view a.text.now a.start a.end c.requires.0 _ c.line_cut-rows.ensures)) a.view (lent a.text.now x f y a.out.now of os) same c.in_default.is

@@ -1,0 +1,17 @@
+use mathlib.Core.Path.{refl}
+use Prim.Native.Nat.{◌-◌}
+use native.Mathlib.Omega.{arith}
+use lib.Dec.{leb}
+use Rattle.text.proofs.Scans.{all-at, all-at-end}
+use Rattle.text.specs.Text.{all}
+use borrow.Author.Rules.{rules}
+use Rattle.frame_size.proofs.all_flags.Goals as goal
+
+pub loop-i-init : goal.loop-i-init
+loop-i-init c = (search rules, refl)
+
+pub loop-i-preserved : goal.loop-i-preserved
+loop-i-preserved c = let l = c.loop-i in (omega arith, all-at _ l.i c.loop-i-test.true (λ b. leb b 1) l.all _ refl l.invariant.1)
+
+pub returns : goal.returns
+returns c = let l = c.loop-i in all-at-end _ l.i c.loop-i-test.false (λ b. leb b 1) l.all l.invariant.1
