@@ -5,11 +5,14 @@
 
 use edit::{Answer, Applied, View};
 use framed::apply_frame;
-use libc::{STDIN_FILENO, STDOUT_FILENO};
 use lines::{is_passed_over, part_at};
 use reader::{FrameRead, read};
 use text::{Col, Position, Row};
 use writer::{Written, write_edit, write_text};
+
+const STDIN_FILENO: i32 = 0;
+
+const STDOUT_FILENO: i32 = 1;
 
 const TEXT_ROOM: usize = 4_096;
 

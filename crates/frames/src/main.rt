@@ -10,9 +10,12 @@ mod words;
 ghost use Rattle.std.specs.Prelude.{◌≤◌, length};
 
 use crate::words::put_words;
-use libc::{STDIN_FILENO, STDOUT_FILENO};
 use lines::{is_passed_over, part_at};
 use script::{Ran, run_script};
+
+const STDIN_FILENO: i32 = 0;
+
+const STDOUT_FILENO: i32 = 1;
 
 const ROOM: usize = 131_072;
 

@@ -21,9 +21,12 @@ mod lent;
 mod show;
 mod trial;
 
-use libc::{STDIN_FILENO, STDOUT_FILENO};
 use lines::{is_passed_over, part_at, read_numbers};
 use trial::{NUMBERS, try_cursor, try_edit};
+
+const STDIN_FILENO: i32 = 0;
+
+const STDOUT_FILENO: i32 = 1;
 
 fn is_label(line: &[u8]) -> bool {
     if line.len() == 0 {

@@ -3,9 +3,10 @@ ghost use Rattle.std.specs.Prelude.{◌<◌};
 
 use crate::trial::{ITEMS, ROOM};
 use edit::{Applied, Edit, MotionKind, Refusal, View};
-use libc::STDOUT_FILENO;
 use text::Position;
 use view::CursorSet;
+
+const STDOUT_FILENO: i32 = 1;
 
 // The most items that are printed.
 const SHORT: usize = 24;

@@ -11,8 +11,11 @@
 mod replay;
 
 use crate::replay::replay;
-use libc::{STDIN_FILENO, STDOUT_FILENO};
 use lines::{is_passed_over, part_at, read_numbers};
+
+const STDIN_FILENO: i32 = 0;
+
+const STDOUT_FILENO: i32 = 1;
 
 // The most numbers of a line.
 const NUMBERS: usize = 64;

@@ -2,13 +2,14 @@
 ghost use Rattle.std.specs.Prelude.{◌≤◌, length};
 
 use edit::{Edit, Refusal, View};
-use libc::STDOUT_FILENO;
 use lines::size;
 use merge::{Merged, merge_overlapping};
 use select::{RowSpan, Sel, Selection};
 use shift::{SelShifted, Shifted, shift_position, shift_sel};
 use text::{Position, Row};
 use trials::{edit_of, position};
+
+const STDOUT_FILENO: i32 = 1;
 
 // The numbers of a shift before its text.
 const HEAD: usize = 13;

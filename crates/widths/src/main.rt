@@ -14,9 +14,12 @@ mod tally;
 ghost use Rattle.std.specs.Prelude.{◌≤◌, length};
 
 use entry::{place_of, read_entry};
-use libc::{STDIN_FILENO, STDOUT_FILENO};
 use lines::part_at;
 use tally::{Tally, ask_range, ask_scalars};
+
+const STDIN_FILENO: i32 = 0;
+
+const STDOUT_FILENO: i32 = 1;
 
 // How many code points of the line are wide: none, if it is malformed.
 fn print_line(line: &[u8]) -> u64
