@@ -1,5 +1,5 @@
-/* Winchbarn's core for C and for whatever calls C. The archive is target/staticlib/libwinchbarn.a, made by `rt staticlib winchbarn` for
- * x86-64; for another machine target/native/libwinchbarn.a, made there by tests/archive.sh.
+/* Winchbarn's core for C and for whatever calls C. The archive is libwinchbarn.a, made by tests/archive.sh: in target/staticlib for x86-64,
+ * and on another machine in target/native for that one.
  *
  * A pointer with a length is a slice. NULL IS NOT ALLOWED, ALSO WHERE THE LENGTH IS 0: lend winchbarn_empty(), or for bytes
  * winchbarn_empty_bytes(), where there is nothing to lend (in C++ the data() of an empty vector may be null). Beyond that nothing is required of a caller but what C requires: a pointer is

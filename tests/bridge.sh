@@ -1,12 +1,9 @@
 #!/usr/bin/env bash
-# The archive of `rt staticlib` is for x86-64. On another machine this makes target/bridge/libwinchbarn.a, whose functions hand each call to a
-# server that holds the archive and runs under the toolchain's emulator (host/bridge). It says what the core answers, and nothing about speed.
+# On a machine that is not x86-64 this makes target/bridge/libwinchbarn.a, whose functions hand each call to a server that holds the archive for
+# x86-64 and runs under an emulator (host/bridge). It says what the core answers, and nothing about speed.
 set -euo pipefail
 cd "$(dirname "${BASH_SOURCE[0]}")/.."
 source tests/emulator.sh
-libraries=$tools/lib
-emulator=$tools/bin/qemu-x86_64
-loader=$libraries/ld-linux-x86-64.so.2
 out=$PWD/target/bridge
 mkdir -p "$out"
 

@@ -5,7 +5,7 @@ set -euo pipefail
 unset POSIXLY_CORRECT # the file size limit below is in units of 1,024 bytes
 cd "$(dirname "${BASH_SOURCE[0]}")/.."
 source tests/emulator.sh
-run=(timeout 120 "${emulated[@]}" crates/scriptrun/out/scriptrun) # built by `rt run`; one that does not end fails
+run=(timeout 120 "${emulated[@]}" crates/scriptrun/out/scriptrun) # one that does not end fails
 passed=0
 
 dir=$(mktemp -d)

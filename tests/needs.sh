@@ -1,7 +1,7 @@
 #!/usr/bin/env bash
 # What a call needs beside what it is lent, as the header says it: functions that are not in the archive, and stack (tests/c/stack.c). On a machine
-# that is not x86-64 that is looked at in the archive made for it, and in the archive itself under the toolchain's emulator. Its last line says how
-# many checks passed.
+# that is not x86-64 that is looked at in the archive made for it, and in that for x86-64 under an emulator. Its last line says how many checks
+# passed.
 set -euo pipefail
 cd "$(dirname "${BASH_SOURCE[0]}")/.."
 passed=0
@@ -42,8 +42,7 @@ if [ "$part" = native ]; then
     source tests/emulator.sh
     calls_only target/staticlib/libwinchbarn.a
     clang --target=x86_64-linux-gnu -O1 -fPIE -std=c99 -Wall -Wextra -Werror -isystem "/usr/include/$(gcc -dumpmachine)" -Iinclude -c -o target/c/stack.o tests/c/stack.c
-    libraries=$tools/lib
-    ld.lld -pie -dynamic-linker "$libraries/ld-linux-x86-64.so.2" -o target/c/stack.x86_64 "$libraries"/{Scrt1.o,crti.o,crtbeginS.o} target/c/stack.o \
+    ld.lld -pie -dynamic-linker "$loader" -o target/c/stack.x86_64 "$libraries"/{Scrt1.o,crti.o,crtbeginS.o} target/c/stack.o \
         target/staticlib/libwinchbarn.a "$libraries"/{libc.so.6,libc_nonshared.a,libgcc.a,crtendS.o,crtn.o}
     add "${emulated[@]}" target/c/stack.x86_64
 fi

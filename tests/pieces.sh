@@ -4,4 +4,4 @@
 set -euo pipefail
 cd "$(dirname "${BASH_SOURCE[0]}")/.."
 source tests/emulator.sh
-exec python3 tests/pieces.py crates/frames/stdin "${emulated[@]}" target/bin/scriptrun
+exec python3 tests/pieces.py crates/frames/stdin "${emulated[@]}" crates/scriptrun/out/scriptrun

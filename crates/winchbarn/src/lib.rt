@@ -1,4 +1,4 @@
-// The core's functions for C, as include/winchbarn.h declares them.
+// The core's functions for callers that know no enums: `winchbarn_c` exports them to C, as include/winchbarn.h declares them.
 #![tactic(auto)]
 
 ghost use Rattle.std.specs.Prelude.{◌≡◌};
@@ -46,15 +46,13 @@ use told::{
 use view::{set_cursor, undoable};
 use writer::{write_edit, write_mark, write_text};
 
-#[unsafe(no_mangle)]
-pub extern "C" fn winchbarn_run_script(input: &[u8], out: &mut [u8]) -> Count
+pub fn winchbarn_run_script(input: &[u8], out: &mut [u8]) -> Count
     ensures { counted result out.new ≡ told_into (ran_into input.now out.old) }
 {
     told_ran(run_script(input, out))
 }
 
-#[unsafe(no_mangle)]
-pub extern "C" fn winchbarn_apply_edit(
+pub fn winchbarn_apply_edit(
     text: &mut [u32],
     view: View,
     edit: Numbers,
@@ -79,8 +77,7 @@ pub extern "C" fn winchbarn_apply_edit(
     }
 }
 
-#[unsafe(no_mangle)]
-pub extern "C" fn winchbarn_apply_frame(
+pub fn winchbarn_apply_frame(
     text: &mut [u32],
     view: View,
     line: &[u8],
@@ -101,8 +98,7 @@ fn view_of(change: Change) -> View
 }
 
 // The answer's view takes the place of the one that is lent. A refusal has the old one.
-#[unsafe(no_mangle)]
-pub extern "C" fn winchbarn_apply_edit_in(
+pub fn winchbarn_apply_edit_in(
     text: &mut [u32],
     view: &mut View,
     edit: Numbers,
@@ -123,8 +119,7 @@ pub extern "C" fn winchbarn_apply_edit_in(
     change
 }
 
-#[unsafe(no_mangle)]
-pub extern "C" fn winchbarn_write_edit(
+pub fn winchbarn_write_edit(
     edit: Numbers,
     payload: &[u32],
     first: &[u32],
@@ -140,22 +135,19 @@ pub extern "C" fn winchbarn_write_edit(
     }
 }
 
-#[unsafe(no_mangle)]
-pub extern "C" fn winchbarn_write_text(text: &[u32], out: &mut [u8]) -> Count
+pub fn winchbarn_write_text(text: &[u32], out: &mut [u8]) -> Count
     ensures { counted result out.new ≡ told_into (written_into (format.text text.now) out.old) }
 {
     told_written(write_text(text, out))
 }
 
-#[unsafe(no_mangle)]
-pub extern "C" fn winchbarn_write_mark(mark: Sel, out: &mut [u8]) -> Count
+pub fn winchbarn_write_mark(mark: Sel, out: &mut [u8]) -> Count
     ensures { counted result out.new ≡ told_into (written_into (format.mark mark) out.old) }
 {
     told_written(write_mark(mark, out))
 }
 
-#[unsafe(no_mangle)]
-pub extern "C" fn winchbarn_read_edit(
+pub fn winchbarn_read_edit(
     line: &[u8],
     outpayload: &mut [u32],
     outfirst: &mut [u32],
@@ -166,22 +158,19 @@ pub extern "C" fn winchbarn_read_edit(
     told_edit_read(read_edit_line(line, outpayload, outfirst, outsecond))
 }
 
-#[unsafe(no_mangle)]
-pub extern "C" fn winchbarn_read_text(line: &[u8], out: &mut [u32]) -> Count
+pub fn winchbarn_read_text(line: &[u8], out: &mut [u32]) -> Count
     ensures { counted result out.new ≡ told_into (text_into (line_form line.now) out.old) }
 {
     told_text_read(read_text_line(line, out))
 }
 
-#[unsafe(no_mangle)]
-pub extern "C" fn winchbarn_read_mark(line: &[u8]) -> SelFound
+pub fn winchbarn_read_mark(line: &[u8]) -> SelFound
     ensures { result ≡ told_mark (mark_in (head_of (line_form line.now))) }
 {
     told_mark_read(read_mark_line(line))
 }
 
-#[unsafe(no_mangle)]
-pub extern "C" fn winchbarn_undoable(
+pub fn winchbarn_undoable(
     text: &[u32],
     view: View,
     edit: Numbers,
@@ -201,29 +190,25 @@ pub extern "C" fn winchbarn_undoable(
     }
 }
 
-#[unsafe(no_mangle)]
-pub extern "C" fn winchbarn_set_cursor(text: &[u32], view: View, pos: Position) -> Viewed
+pub fn winchbarn_set_cursor(text: &[u32], view: View, pos: Position) -> Viewed
     ensures { result ≡ told_view view (cursor_set_in text.now view pos) }
 {
     told_cursor(view, set_cursor(text, view, pos))
 }
 
-#[unsafe(no_mangle)]
-pub extern "C" fn winchbarn_clamp_position(text: &[u32], used: usize, pos: Position) -> Found
+pub fn winchbarn_clamp_position(text: &[u32], used: usize, pos: Position) -> Found
     ensures { result ≡ told_clamped (clamped_in text.now used pos) }
 {
     told_clamped(clamp_position(text, used, pos))
 }
 
-#[unsafe(no_mangle)]
-pub extern "C" fn winchbarn_box_fit(text: &[u32], used: usize, cells: u32, tab: u32) -> Found
+pub fn winchbarn_box_fit(text: &[u32], used: usize, cells: u32, tab: u32) -> Found
     ensures { result ≡ told_fit (fits_in text.now used cells tab) }
 {
     told_fit(box_fit(text, used, cells, tab))
 }
 
-#[unsafe(no_mangle)]
-pub extern "C" fn winchbarn_shift_position(
+pub fn winchbarn_shift_position(
     text: &[u32],
     view: View,
     edit: Numbers,
@@ -243,8 +228,7 @@ pub extern "C" fn winchbarn_shift_position(
     }
 }
 
-#[unsafe(no_mangle)]
-pub extern "C" fn winchbarn_shift_sel(
+pub fn winchbarn_shift_sel(
     text: &[u32],
     view: View,
     edit: Numbers,
@@ -264,50 +248,43 @@ pub extern "C" fn winchbarn_shift_sel(
     }
 }
 
-#[unsafe(no_mangle)]
-pub extern "C" fn winchbarn_merge_overlapping(sels: &[u32], out: &mut [u32]) -> Count
+pub fn winchbarn_merge_overlapping(sels: &[u32], out: &mut [u32]) -> Count
     ensures { counted result out.new ≡ told_merge (merged_in sels.now out.old) }
 {
     told_merged(merge_overlapping(sels, out))
 }
 
-#[unsafe(no_mangle)]
-pub extern "C" fn winchbarn_sel_caret(pos: Position) -> Sel
+pub fn winchbarn_sel_caret(pos: Position) -> Sel
     ensures { result ≡ sels.sel pos pos }
 {
     Sel::caret(pos)
 }
 
-#[unsafe(no_mangle)]
-pub extern "C" fn winchbarn_sel_is_caret(sel: Sel) -> bool
+pub fn winchbarn_sel_is_caret(sel: Sel) -> bool
     ensures { result ≡ sels.is_caret sel }
 {
     sel.is_caret()
 }
 
-#[unsafe(no_mangle)]
-pub extern "C" fn winchbarn_sel_start(sel: Sel) -> Position
+pub fn winchbarn_sel_start(sel: Sel) -> Position
     ensures { result ≡ sels.start sel }
 {
     sel.start()
 }
 
-#[unsafe(no_mangle)]
-pub extern "C" fn winchbarn_sel_end(sel: Sel) -> Position
+pub fn winchbarn_sel_end(sel: Sel) -> Position
     ensures { result ≡ sels.end sel }
 {
     sel.end()
 }
 
-#[unsafe(no_mangle)]
-pub extern "C" fn winchbarn_sel_overlaps(sel: Sel, other: Sel) -> bool
+pub fn winchbarn_sel_overlaps(sel: Sel, other: Sel) -> bool
     ensures { result ≡ sels.overlaps sel other }
 {
     sel.overlaps(other)
 }
 
-#[unsafe(no_mangle)]
-pub extern "C" fn winchbarn_selection_head(kind: u32, sel: Sel) -> Found
+pub fn winchbarn_selection_head(kind: u32, sel: Sel) -> Found
     ensures { result ≡ head_call kind sel }
 {
     let meant = meant_selection(kind, sel);
@@ -317,8 +294,7 @@ pub extern "C" fn winchbarn_selection_head(kind: u32, sel: Sel) -> Found
     }
 }
 
-#[unsafe(no_mangle)]
-pub extern "C" fn winchbarn_selection_anchor(kind: u32, sel: Sel) -> Found
+pub fn winchbarn_selection_anchor(kind: u32, sel: Sel) -> Found
     ensures { result ≡ anchor_call kind sel }
 {
     let meant = meant_selection(kind, sel);
@@ -328,8 +304,7 @@ pub extern "C" fn winchbarn_selection_anchor(kind: u32, sel: Sel) -> Found
     }
 }
 
-#[unsafe(no_mangle)]
-pub extern "C" fn winchbarn_selection_extend_to(kind: u32, sel: Sel, pos: Position) -> SelFound
+pub fn winchbarn_selection_extend_to(kind: u32, sel: Sel, pos: Position) -> SelFound
     ensures { result ≡ extend_call kind sel pos }
 {
     let meant = meant_selection(kind, sel);
@@ -339,8 +314,7 @@ pub extern "C" fn winchbarn_selection_extend_to(kind: u32, sel: Sel, pos: Positi
     }
 }
 
-#[unsafe(no_mangle)]
-pub extern "C" fn winchbarn_selection_row_bounds(kind: u32, sel: Sel) -> Bounds
+pub fn winchbarn_selection_row_bounds(kind: u32, sel: Sel) -> Bounds
     ensures { result ≡ bounds_call kind sel }
 {
     let meant = meant_selection(kind, sel);
@@ -350,8 +324,7 @@ pub extern "C" fn winchbarn_selection_row_bounds(kind: u32, sel: Sel) -> Bounds
     }
 }
 
-#[unsafe(no_mangle)]
-pub extern "C" fn winchbarn_row_span(kind: u32, sel: Sel, row: u32) -> Cover
+pub fn winchbarn_row_span(kind: u32, sel: Sel, row: u32) -> Cover
     ensures { result ≡ span_call kind sel row }
 {
     let meant = meant_selection(kind, sel);
@@ -361,15 +334,13 @@ pub extern "C" fn winchbarn_row_span(kind: u32, sel: Sel, row: u32) -> Cover
     }
 }
 
-#[unsafe(no_mangle)]
-pub extern "C" fn winchbarn_decode(bytes: &[u8], out: &mut [u32]) -> Count
+pub fn winchbarn_decode(bytes: &[u8], out: &mut [u32]) -> Count
     ensures { counted result out.new ≡ told_into (decoded (reading bytes.now) out.old) }
 {
     told_decoded(decode(bytes, out))
 }
 
-#[unsafe(no_mangle)]
-pub extern "C" fn winchbarn_encode(scalars: &[u32], out: &mut [u8]) -> Count
+pub fn winchbarn_encode(scalars: &[u32], out: &mut [u8]) -> Count
     ensures { counted result out.new ≡ told_into (encoded scalars.now out.old) }
 {
     told_encoded(encode(scalars, out))
