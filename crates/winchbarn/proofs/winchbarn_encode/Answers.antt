@@ -1,0 +1,5 @@
+use Rattle.winchbarn.proofs.Tellings.{told_into_lem}
+use Rattle.winchbarn.proofs.winchbarn_encode.Goals as goal
+
+pub returns : goal.returns
+returns c = told_into_lem _ _ _ _ c.told_encoded.ensures c.encode.ensures

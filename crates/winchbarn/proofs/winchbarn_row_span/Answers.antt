@@ -1,0 +1,12 @@
+use mathlib.Core.Path.{ap, ◌∙◌}
+use Rattle.winchbarn.proofs.Tellings.{by_kind, kindless}
+use Rattle.plain.specs.Told.{no_cover, told_span}
+use Rattle.select.specs.declared.Selection.{Selection}
+use Rattle.select.specs.Selections.{row_span}
+use Rattle.winchbarn.proofs.winchbarn_row_span.Goals as goal
+
+pub returns-in-Selection : goal.returns-in-Selection
+returns-in-Selection c = by_kind c.args.kind c.args.sel c.meant_selection-meant.result c.meant_selection-meant.ensures _ (no_cover 10) (λ (s : Selection). told_span (row_span s c.args.row)) _ c.in-Selection.is (c.told_span.ensures ∙ ap told_span c.row_span.ensures)
+
+pub returns-in-NoKind : goal.returns-in-NoKind
+returns-in-NoKind c = kindless c.args.kind c.args.sel c.meant_selection-meant.result c.meant_selection-meant.ensures _ (no_cover 10) (λ (s : Selection). told_span (row_span s c.args.row)) c.in-NoKind.is c.no_cover.ensures

@@ -1,0 +1,12 @@
+use mathlib.Core.Path.{ap, ◌∙◌}
+use Rattle.winchbarn.proofs.Tellings.{by_kind, kindless}
+use Rattle.plain.specs.Told.{found_at, not_found}
+use Rattle.select.specs.declared.Selection.{Selection}
+use Rattle.select.specs.Selections.{anchor_of}
+use Rattle.winchbarn.proofs.winchbarn_selection_anchor.Goals as goal
+
+pub returns-in-Selection : goal.returns-in-Selection
+returns-in-Selection c = by_kind c.args.kind c.args.sel c.meant_selection-meant.result c.meant_selection-meant.ensures _ (not_found 10) (λ (s : Selection). found_at (anchor_of s)) _ c.in-Selection.is (c.found_at.ensures ∙ ap found_at c.anchor.ensures)
+
+pub returns-in-NoKind : goal.returns-in-NoKind
+returns-in-NoKind c = kindless c.args.kind c.args.sel c.meant_selection-meant.result c.meant_selection-meant.ensures _ (not_found 10) (λ (s : Selection). found_at (anchor_of s)) c.in-NoKind.is c.not_found.ensures
