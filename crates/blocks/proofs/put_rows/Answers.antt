@@ -1,4 +1,3 @@
-use Prim.Native.Nat.{◌-◌}
 use Rattle.blocks.proofs.Putting.{putting_none, splice_asked, open_asked, next_limit, start-limit, putting_next, chunk_end, putting_done}
 use native.Mathlib.Omega.{arith}
 use Rattle.blocks.proofs.put_rows.Goals as goal

@@ -1,4 +1,4 @@
-use Prim.Native.Nat.{◌+◌, ◌-◌, ◌/◌}
+use Prim.Native.Nat.{◌+◌, ◌/◌}
 use Rattle.cells.proofs.Tables.{upto-entry, over-entry, upto-length}
 use native.Mathlib.Omega.{arith}
 use Rattle.cells.proofs.count_upto.Goals as goal

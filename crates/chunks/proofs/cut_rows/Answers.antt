@@ -1,4 +1,3 @@
-use Prim.Native.Nat.{◌-◌}
 use Rattle.chunks.proofs.Cutting.{cutting_none, splice_asked, end-asked, row_asked, filled-bound, cutting_next, cutting_done}
 use native.Mathlib.Omega.{arith}
 use Rattle.chunks.proofs.cut_rows.Goals as goal

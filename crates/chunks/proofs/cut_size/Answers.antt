@@ -1,4 +1,3 @@
-use Prim.Native.Nat.{◌-◌}
 use lib.ListN.{length}
 use Rattle.blocks.proofs.Starts.{row_there}
 use Rattle.chunks.proofs.Cuts.{sizing_none, sizing_next, sizing_bounds, sizing_done, cut_order, end-found}

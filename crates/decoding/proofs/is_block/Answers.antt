@@ -1,4 +1,3 @@
-use Prim.Native.Nat.{◌-◌}
 use native.Mathlib.Omega.{arith}
 use Rattle.decoding.proofs.Runs.{ascii_more}
 use Rattle.decoding.proofs.is_block.Goals as goal

@@ -1,6 +1,4 @@
-use mathlib.Core.Bool.{true}
 use mathlib.Core.Path.{refl}
-use Prim.Native.Nat.{◌-◌}
 use native.Mathlib.Omega.{arith}
 use lib.ListN.{get_or, length-set}
 use Rattle.encoding.proofs.Fills.{one-room, one_again, three_room, three_again, fill_room, fill_again, fill_all}

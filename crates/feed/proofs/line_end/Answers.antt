@@ -1,4 +1,3 @@
-use Prim.Native.Nat.{◌-◌}
 use native.Mathlib.Omega.{arith}
 use Rattle.text.proofs.Scans.{len_at-lf, len_at-other, len_at-end}
 use borrow.Author.Rules.{rules}

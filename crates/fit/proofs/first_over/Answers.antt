@@ -1,6 +1,5 @@
-use mathlib.Core.Logic.{⊎_elim}
 use mathlib.Core.Path.{refl, sym, ap, ◌∙◌}
-use Prim.Native.Nat.{ℕ, ◌+◌, ◌≤◌, ◌-◌}
+use Prim.Native.Nat.{ℕ, ◌+◌, ◌≤◌}
 use lib.ListN.{drop, get_or}
 use Rattle.promise.specs.Paper.{Paper, done}
 use Rattle.cells.specs.Cells.{cell_after}
@@ -34,16 +33,15 @@ cols-preserved c = let k = c.cols in let r = c.rows in let a = c.args in
     )
 
 pub rows-preserved-then-i-text : goal.rows-preserved-then-i-text
-rows-preserved-then-i-text c = let k = c.cols in let r = c.rows in let a = c.args in
-    (
-      omega arith,
-      omega arith,
-      k.invariant.5,
-      elim c.cols-test.branch [
-        else-cols-test w ↦ absurd (omega arith)
-        | then-cols-test+then-text-i-eq-LF w ↦ sym (walk_lf a.cells a.tab r.row k.cell k.col a.text.now k.i (omega arith) w.if-text-i-eq-LF.true) ∙ k.invariant.6
-      ],
-    )
+rows-preserved-then-i-text c = let k = c.cols in let r = c.rows in let a = c.args in (
+  omega arith,
+  omega arith,
+  k.invariant.5,
+  elim c.cols-test.branch [
+    | else-cols-test w ↦ absurd (omega arith)
+    | then-cols-test+then-text-i-eq-LF w ↦ sym (walk_lf a.cells a.tab r.row k.cell k.col a.text.now k.i (omega arith) w.if-text-i-eq-LF.true) ∙ k.invariant.6
+  ],
+)
 
 pub rows-preserved : goal.rows-preserved
 rows-preserved c = let k = c.cols in let r = c.rows in let a = c.args in

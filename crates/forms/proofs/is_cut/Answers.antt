@@ -1,5 +1,4 @@
 use mathlib.Core.Path.{refl, sym, ◌∙◌}
-use Prim.Native.Nat.{◌-◌}
 use native.Mathlib.Omega.{arith}
 use Rattle.frame.proofs.Strings.{cut_none, cut_torn, cut_next}
 use Rattle.forms.proofs.is_cut.Goals as goal

@@ -1,5 +1,4 @@
 use mathlib.Core.Path.{sym, ◌∙◌}
-use Prim.Native.Nat.{◌-◌}
 use Rattle.frame.proofs.Items.{flags_good, flags_bad, flags_end, flagged-whole, flagged-part}
 use Rattle.forms.proofs.is_flagged.Goals as goal
 

@@ -1,4 +1,3 @@
-use Prim.Native.Nat.{◌-◌}
 use native.Mathlib.Omega.{arith}
 use Rattle.hexline.proofs.Pairs.{pairs_again, pairs_bad, pairs_all}
 use Rattle.hexline.proofs.is_paired.Goals as goal

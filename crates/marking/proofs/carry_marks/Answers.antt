@@ -1,4 +1,4 @@
-use Prim.Native.Nat.{◌-◌, ◌*◌}
+use Prim.Native.Nat.{◌*◌}
 use native.Mathlib.Omega.{arith}
 use Rattle.marking.specs.Carries.{carried_mark}
 use Rattle.marking.proofs.Carrying.{none_carried, all-carried, part-holds, carried-again}

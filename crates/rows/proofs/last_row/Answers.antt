@@ -1,4 +1,3 @@
-use Prim.Native.Nat.{◌-◌}
 use native.Mathlib.Omega.{arith}
 use Rattle.text.proofs.Scans.{last_at-lf, last_at-other, last_at-end}
 use Rattle.rows.proofs.last_row.Goals.{then-text-i-eq-LF, else-text-i-eq-LF}
@@ -10,7 +9,7 @@ loop-i-init c = omega arith
 pub loop-i-preserved : goal.loop-i-preserved
 loop-i-preserved c = let s = c.args.text.now in let i = c.loop-i.i in let h = c.loop-i-test.true in
     elim c.if-text-i-eq-LF.branch [
-      then-text-i-eq-LF w ↦ omega (arith, last_at-lf s i h w.if-text-i-eq-LF.true)
+      | then-text-i-eq-LF w ↦ omega (arith, last_at-lf s i h w.if-text-i-eq-LF.true)
       | else-text-i-eq-LF w ↦ omega (arith, last_at-other s i h w.if-text-i-eq-LF.false)
     ]
 

@@ -1,6 +1,6 @@
 use mathlib.Core.Path.{ap}
 use mathlib.Core.List.{List}
-use Prim.Native.Nat.{ℕ, ◌-◌}
+use Prim.Native.Nat.{ℕ}
 use lib.ListN.{length-take, length-drop}
 use Rattle.promise.proofs.Lists.{tail_whole}
 use Rattle.text.proofs.Laws.{start-le}

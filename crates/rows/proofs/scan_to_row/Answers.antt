@@ -1,5 +1,5 @@
 use mathlib.Core.Path.{ap}
-use Prim.Native.Nat.{◌+◌, ◌-◌}
+use Prim.Native.Nat.{◌+◌}
 use native.Mathlib.Omega.{arith}
 use lib.ListN.{drop}
 use Rattle.text.proofs.Laws.{start_first}
@@ -20,7 +20,7 @@ pub loop-i-preserved : goal.loop-i-preserved
 loop-i-preserved c = let s = c.args.text.now in let l = c.loop-i in
     let h = c.loop-i-test.true in let z = c.if-above-eq0.false in
     elim c.if-text-i-eq-LF.branch [
-      then-text-i-eq-LF w ↦ omega (arith, start-at-lf s l.i h l.above z w.if-text-i-eq-LF.true, ap (row_start is_lf (drop (l.i + 1) s)) w.above-is)
+      | then-text-i-eq-LF w ↦ omega (arith, start-at-lf s l.i h l.above z w.if-text-i-eq-LF.true, ap (row_start is_lf (drop (l.i + 1) s)) w.above-is)
       | else-text-i-eq-LF w ↦ omega (arith, start-at-other s l.i h l.above z w.if-text-i-eq-LF.false, ap (row_start is_lf (drop (l.i + 1) s)) w.above-is)
     ]
 

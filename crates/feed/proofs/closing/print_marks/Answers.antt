@@ -1,5 +1,4 @@
 use mathlib.Core.Path.{refl}
-use Prim.Native.Nat.{◌-◌}
 use native.Mathlib.Omega.{arith}
 use Rattle.marking.specs.FlatMarks.{mark_in}
 use Rattle.feed.proofs.Closings.{part, shown_none, shown_next, shown_all, mark_short}

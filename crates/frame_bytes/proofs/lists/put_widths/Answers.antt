@@ -1,5 +1,4 @@
 use mathlib.Core.Path.{refl}
-use Prim.Native.Nat.{◌-◌}
 use native.Mathlib.Omega.{arith}
 use Rattle.frame_bytes.proofs.Pasted.{fill_none}
 use Rattle.frame_bytes.proofs.Listed.{widths_room, widths_more, widths_done}

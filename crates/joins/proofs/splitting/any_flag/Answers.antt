@@ -1,5 +1,4 @@
 use Rattle.joins.proofs.SplitRows.{any-yes, any-no, any-end}
-use Prim.Native.Nat.{◌-◌}
 use mathlib.Core.Path.{refl, sym, ◌∙◌}
 use native.Mathlib.Omega.{arith}
 use Rattle.joins.proofs.splitting.any_flag.Goals as goal

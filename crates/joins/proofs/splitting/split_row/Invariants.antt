@@ -1,6 +1,6 @@
 use Rattle.joins.proofs.SplitStores.{Putting}
 use lib.ListN.{length}
-use Prim.Native.Nat.{◌-◌, ◌≤◌}
+use Prim.Native.Nat.{◌≤◌}
 use mathlib.Core.Path.{◌≡◌}
 use Rattle.joins.proofs.splitting.split_row.Given as goal
 

@@ -1,6 +1,6 @@
 use mathlib.Core.Path.{refl, sym, ◌∙◌, subst}
 use mathlib.Core.List.{List}
-use Prim.Native.Nat.{ℕ, ◌+◌, ◌-◌}
+use Prim.Native.Nat.{ℕ, ◌+◌}
 use Rattle.select.specs.declared.Sel.{Sel}
 use Rattle.sorting.specs.Flat.{flat}
 use Rattle.merge.proofs.Turns.{Turning, turning_none, turning_first, turn_merge, turn_put, turning_done}

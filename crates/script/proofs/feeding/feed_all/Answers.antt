@@ -6,7 +6,6 @@ use lib.ListN.{length, take, drop}
 use Rattle.feed.proofs.Ends.{part_length, some_taken}
 use Rattle.script.proofs.Goings.{none_printed, stays_long}
 use Rattle.script.proofs.Feedings.{fed-goes, fed-over}
-use borrow.Author.Rules.{rules}
 use Rattle.script.proofs.feeding.feed_all.Goals as goal
 
 pub loop-at-init : goal.loop-at-init
