@@ -43,7 +43,7 @@ further_examples = record {
 
 pub first_refusals : FirstRefusals
 unfolding onto lines unlines row_count last_row row_len row_start clamp offset end_of in_text admissible all text_ok renewed scalar flatten inserted chars_deleted line_from line_to lines_deleted replaced gap join_row join_cols join_flags put put_all pads_of pieces cut_all chunks_of any_flag joined unspace split_first split_row split block_inserted chunks_deleted range_deleted edited_by sum small_range small_ok few_rows few_ok payload_ok within_first within_all within_ok room_ok record_ok wide first_of result_of leaves applied range_undoable is_undoable undoable
-first_refusals = record { bad_text = refl; too_big_lem = refl; too_many = refl; bad_payload = refl; beyond_row = refl; no_room = refl; no_record = refl }
+first_refusals = record { bad_text = refl; too_big = refl; too_many = refl; bad_payload = refl; beyond_row = refl; no_room = refl; no_record = refl }
 
 pub ruled_out : RuledOut
 unfolding onto lines unlines row_count last_row row_len row_start clamp offset end_of in_text admissible all text_ok renewed scalar flatten inserted chars_deleted line_from line_to lines_deleted replaced gap join_row join_cols join_flags put put_all pads_of pieces cut_all chunks_of any_flag joined unspace split_first split_row split block_inserted chunks_deleted range_deleted edited_by sum small_range small_ok few_rows few_ok payload_ok within_first within_all within_ok room_ok record_ok wide first_of result_of leaves applied range_undoable is_undoable undoable

@@ -102,7 +102,7 @@ pub record FirstRefusals : Type 0 where
   -- U+000D in the text, and a row of 1,000,001
   pub bad_text : Refuses (13 ∷ []) (plain (InsertStr (at 1_000_001 0)) []) 1
   -- that row, and 257 chunks
-  pub too_big_lem : Refuses [] (whole (InsertBlock (at 1_000_001 0)) [] (replicate 257 0) []) 2
+  pub too_big : Refuses [] (whole (InsertBlock (at 1_000_001 0)) [] (replicate 257 0) []) 2
   -- 257 chunks, and U+000D in the payload
   pub too_many : Refuses [] (whole (InsertBlock (at 0 0)) (13 ∷ []) (replicate 257 0) []) 3
   -- seventeen times U+000D for sixteen places

@@ -9,7 +9,7 @@ use Rattle.framed.specs.Calls.{line_applied}
 
 pub record RuledOut : Type 0 where
   -- a mark taken for an edit that changes nothing
-  pub a_mark_lem :
+  pub a_mark :
       line_applied (record { used = 1; cursor = at 0 0; changes = 0 }) (hexed (0x02 ∷ replicate 16 0)) (0x61 ∷ 7 ∷ []) (9 ∷ []) (9 ∷ []) (9 ∷ [])
       ≡ outcome (refused 10 0) (0x61 ∷ 7 ∷ []) (9 ∷ []) (9 ∷ []) (9 ∷ [])
   -- a malformed line refused by 8

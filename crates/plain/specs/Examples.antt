@@ -33,7 +33,7 @@ pub record RuledOut : Type 0 where
   pub payload : (told_done (record { view = record { used = 0; cursor = at 0 0; changes = 0 }; inverse = JoinLines (row_at 1) 5 true; payload = 1; first = 2; second = 3 })).payload ≡ 1
   -- that all rows fit told as refusal 1, a box that is too big as fitting or as 1; what is no text told as a position that is not there
   pub fits : told_fit (done all_fit) ≡ record { refusal = 0; found = false; at = at 0 0 }
-  pub too_big_lem : told_fit (paper_box_fit TooBig) ≡ record { refusal = 2; found = false; at = at 0 0 }
+  pub too_big : told_fit (paper_box_fit TooBig) ≡ record { refusal = 2; found = false; at = at 0 0 }
   pub no_text : told_clamped (paper_clamped BadText) ≡ record { refusal = 1; found = false; at = at 0 0 }
   -- 8 told as 9
   pub no_room : told_count (paper_decoded NoRoom) ≡ record { refusal = 8; offset = 0; count = 0 }

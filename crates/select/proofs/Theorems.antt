@@ -76,4 +76,4 @@ span-back (row_span.Closed lo hi) = refl
 span-back (row_span.Open lo) = refl
 
 pub promises_settle : Settled
-promises_settle = record { row_span_lem = settled span_back span-back }
+promises_settle = record { row_span = settled span_back span-back }

@@ -37,4 +37,4 @@ BoundsTell = (s : Selection) (row : ℕ) → is_none (row_span s row) ≡ outsid
 
 -- The public promise settles its answer. (Those of the other functions are equations for the answer itself.)
 pub record Settled : Type 0 where
-  pub row_span_lem : Settles paper_row_span
+  pub row_span : Settles paper_row_span

@@ -43,7 +43,7 @@ pub first_refusals : FirstRefusals
 unfolding scalar admissible all text_ok small_range small_ok few_rows few_ok payload_ok first_of ordered_range ordered_ok position_shifted sel_shifted carried_over
 first_refusals = record {
   bad_text = refl;
-  too_big_lem = refl;
+  too_big = refl;
   too_many = refl;
   bad_payload = refl;
   reversed_replace = refl;

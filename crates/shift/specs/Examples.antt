@@ -62,7 +62,7 @@ pub record Examples : Type 0 where
 -- "in order of checking": each of the first five is refused also by every later one
 pub record FirstRefusals : Type 0 where
   pub bad_text : shift_of (11 ∷ []) (Replace (at 0 1) (at 0 0)) (11 ∷ replicate 16_384 97) [] (at 0 1_000_001) ≡ refused 1 0
-  pub too_big_lem : shift_of [] (Replace (at 0 1) (at 0 0)) (11 ∷ replicate 16_384 97) [] (at 0 1_000_001) ≡ refused 2 0
+  pub too_big : shift_of [] (Replace (at 0 1) (at 0 0)) (11 ∷ replicate 16_384 97) [] (at 0 1_000_001) ≡ refused 2 0
   pub too_many : shift_of [] (Replace (at 0 1) (at 0 0)) (11 ∷ replicate 16_384 97) [] (at 0 0) ≡ refused 3 0
   pub bad_payload : shift_of [] (Replace (at 0 1) (at 0 0)) (11 ∷ []) [] (at 0 0) ≡ refused 4 0
   pub reversed_replace : shift_of [] (Replace (at 0 1) (at 0 0)) [] [] (at 0 0) ≡ refused 6 0

@@ -90,7 +90,7 @@ promises_settle =
       read_scalar = settled step_back step_back_lem;
       count_scalars = settled count_back count_back_lem;
       decode = settled (λ l. (decoded_back l.answer, l.out)) (λ x. ap (λ (d : Decoded). (d, x.1)) (decoded-back x.0));
-      sequence_of_lem = settled sequence_back sequence_back_lem;
+      sequence_of = settled sequence_back sequence_back_lem;
       count_octets = settled octets_back octets-back;
       encode = settled (λ l. (encoded_back l.answer, l.out)) (λ x. ap (λ (d : Encoded). (d, x.1)) (encoded-back x.0));
     }

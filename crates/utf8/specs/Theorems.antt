@@ -50,6 +50,6 @@ pub record Settled : Type 0 where
   pub read_scalar : Settles paper_step
   pub count_scalars : Settles paper_scalar_count
   pub decode : Settles {A = Decoded × List ℕ} (λ o. outcome (paper_decoded o.0) o.1)
-  pub sequence_of_lem : Settles paper_sequence
+  pub sequence_of : Settles paper_sequence
   pub count_octets : Settles paper_octet_count
   pub encode : Settles {A = Encoded × List ℕ} (λ o. outcome (paper_encoded o.0) o.1)

@@ -9,4 +9,4 @@ use Rattle.view.specs.Examples.{RuledOut}
 
 pub ruled_out : RuledOut
 unfolding first_of is_undoable range_undoable undoable few_ok few_rows payload_ok small_ok small_range sum wide clamp in_text last_row lines onto row_count row_len admissible all text_ok scalar
-ruled_out = record { no_text = refl; cursor = refl; says_yes_lem = refl; split = refl; lines = refl; replace = refl; last_row = refl; just_wide = refl; second_row = refl; left = refl }
+ruled_out = record { no_text = refl; cursor = refl; says_yes = refl; split = refl; lines = refl; replace = refl; last_row = refl; just_wide = refl; second_row = refl; left = refl }

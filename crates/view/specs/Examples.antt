@@ -22,7 +22,7 @@ pub record RuledOut : Type 0 where
   pub no_text : cursor_set_in (13 ∷ []) one (at 0 0) ≡ refused 1 0
   pub cursor : cursor_set_in (97 ∷ 98 ∷ []) one (at 0 1) ≡ done (with_cursor one (at 0 1))
   -- every edit answered with no; no line delete undoable, or a split undoable
-  pub says_yes_lem : undoable one (InsertStr (at 0 0)) (lent (97 ∷ []) [] [] [] [] [] []) ≡ done true
+  pub says_yes : undoable one (InsertStr (at 0 0)) (lent (97 ∷ []) [] [] [] [] [] []) ≡ done true
   pub split : is_undoable abcd (SplitLines (row_at 0)) ≡ false
   pub lines : is_undoable abcd (DeleteRange (at 0 0) (at 9 9) Lines) ≡ true
   -- a Replace judged by its second end

@@ -83,7 +83,7 @@ pub record RuledOut : Type 0 where
   -- clamp_position: a position brought into the whole buffer
   pub clamp-position : told_clamped (clamped_in (0x61 ∷ 0x61 ∷ []) 1 (at 0 9)) ≡ found_at (at 0 1)
   -- box_fit: the number of cells taken for the text's length; cells and tab width in each other's place
-  pub box_fit_lem : told_fit (fits_in (0x61 ∷ 0x61 ∷ 0x61 ∷ []) 3 2 8) ≡ found_at (at 0 2)
+  pub box_fit : told_fit (fits_in (0x61 ∷ 0x61 ∷ 0x61 ∷ []) 3 2 8) ≡ found_at (at 0 2)
   pub box_tab : told_fit (fits_in (9 ∷ []) 1 2 3) ≡ found_at (at 0 0)
   -- shift_position: a block's lists handed in each other's place
   pub shift_position : shift_call (0x61 ∷ []) one (at_front 9) (0x58 ∷ []) (1 ∷ []) [] (at 0 0) ≡ found_at (at 0 1)
@@ -108,7 +108,7 @@ pub record RuledOut : Type 0 where
   pub selection_row_bounds : bounds_call 0 (sel (at 3 4) (at 1 2)) ≡ record { refusal = 0; top = 1; bottom = 3 }
   pub selection_no_kind : bounds_call 3 (sel (at 3 4) (at 1 2)) ≡ no_bounds 10
   -- row_span: a selection of a kind that is none covers nothing
-  pub row_span_lem : span_call 3 (sel (at 0 0) (at 0 1)) 0 ≡ no_cover 10
+  pub row_span : span_call 3 (sel (at 0 0) (at 0 1)) 0 ≡ no_cover 10
   -- decode: the offset of a bad sequence not told
   pub decode : told_into (decoded (reading (0x61 ∷ 0xFF ∷ [])) (9 ∷ [])) ≡ counted (record { refusal = 5; offset = 1; count = 0 }) (9 ∷ [])
   -- encode: the scalars counted, not the octets

@@ -14,4 +14,4 @@ use Rattle.writer.specs.Examples.{RuledOut}
 
 pub ruled_out : RuledOut
 unfolding pieces sum chunk_bytes column_bytes edit_bytes edit_chars frame_bytes frame_chars has_bytes has_frame width_bytes line_of digit_of hexed all stored all_scalar writing octets scalar line_into
-ruled_out = record { a_text = refl; a_mark_lem = refl; pads = refl }
+ruled_out = record { a_text = refl; a_mark = refl; pads = refl }

@@ -15,7 +15,7 @@ pub record RuledOut : Type 0 where
   -- a text's line that begins as a mark's
   pub a_text : written_into (text (0x61 ∷ [])) (replicate 5 9) ≡ outcome (done 4) (hexed (0x01 ∷ 0x61 ∷ []) ++ (9 ∷ []))
   -- a mark's line that begins with 03; a position written column first
-  pub a_mark_lem :
+  pub a_mark :
       written_into (mark (sel (at 0 1) (at 2 3))) (replicate 34 9)
       ≡ outcome (done 34) (hexed (0x02 ∷ 0 ∷ 0 ∷ 0 ∷ 0 ∷ 0 ∷ 0 ∷ 0 ∷ 1 ∷ 0 ∷ 0 ∷ 0 ∷ 2 ∷ 0 ∷ 0 ∷ 0 ∷ 3 ∷ []))
   -- widths written with another number of pads
