@@ -18,7 +18,7 @@ record_pads-requires-in-InsertBlock c = let h = rw c.in-InsertBlock.is at c.requ
 
 pub zeros-requires : goal.zeros-requires
 unfolding second_long
-zeros-requires c = let h = rw c.in-InsertBlock.is at c.requires.1 in omega (arith, c.out-in-InsertBlock-1.given)
+zeros-requires c = let h = rw c.in-InsertBlock.is at c.requires.1 in omega arith
 
 pub returns-in-InsertChar : goal.returns-in-InsertChar
 unfolding second_by
