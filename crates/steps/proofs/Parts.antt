@@ -1,5 +1,5 @@
 -- Fronts and parts of lists of any type.
-use mathlib.Core.Path.{◌≡◌, refl}
+use mathlib.Core.Path.{◌≡◌}
 use mathlib.Core.List.{List, [], ◌∷◌}
 use Prim.Native.Nat.{ℕ, zero, suc, ◌-◌, ◌≤◌, min}
 use native.Mathlib.Nat.{sub-zero, min-eq_left, min-eq_right}

@@ -1,4 +1,3 @@
-use Prim.Native.Nat.{◌-◌}
 use native.Mathlib.Omega.{arith}
 use Rattle.text.proofs.Scans.{last_at-lf, last_at-other, last_at-end}
 use Rattle.recording.proofs.breaks_in.Goals.{then-part-i-eq-LF, else-part-i-eq-LF}

@@ -1,4 +1,3 @@
-use Prim.Native.Nat.{◌-◌}
 use native.Mathlib.Omega.{arith}
 use Rattle.recording.proofs.Cutting.{cutting_none, cutting_next, cutting_all, Part, part}
 use Rattle.recording.proofs.record_cut.Goals.{After-five_at-s}

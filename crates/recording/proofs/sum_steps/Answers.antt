@@ -1,4 +1,4 @@
-use Prim.Native.Nat.{◌+◌, ◌-◌}
+use Prim.Native.Nat.{◌+◌}
 use native.Mathlib.Omega.{arith}
 use Rattle.recording.proofs.Totals.{Near, near, gone_few, come_few, totals_none, totals_next, totals_all}
 use Rattle.recording.proofs.sum_steps.Goals.{After-five_at-s}

@@ -1,5 +1,4 @@
 use Rattle.resolve.proofs.Flags.{any-yes, any-no, any-end}
-use Prim.Native.Nat.{◌-◌}
 use mathlib.Core.Path.{refl, sym, ◌∙◌}
 use native.Mathlib.Omega.{arith}
 use Rattle.resolve.proofs.rowwise.any_flag.Goals as goal
