@@ -8,7 +8,8 @@ use lib.ListN.{length, take, drop, replicate, length-append, length-replicate, l
 use lib.Seq.{drop-drop}
 use Rattle.text.specs.Rows.{last_row}
 use Rattle.text.specs.Text.{is_lf}
-use Rattle.text.proofs.Laws.{last_le, last-same, last-others, last-append}
+use Rattle.text.proofs.Laws.{last_le}
+use Rattle.steps.proofs.Lasts.{last_append, last_same, last_others}
 use Rattle.steps.specs.Steps.{breaks_gone, breaks_come}
 use Rattle.steps.specs.Numbers.{steps_of, passed_by, laid_by, come_by, cut_by, size_by}
 use Rattle.recording.specs.declared.Five.{Five}
@@ -18,17 +19,17 @@ use Rattle.recording.proofs.Walks.{whole-left, passed-next, laid_next, come_next
 -- ---- what is made
 
 pub made_some : (v n : ℕ) → v ≡ 10 → n ≡ last_row is_lf (replicate n v)
-made_some v n e = omega (arith, last-same is_lf v n (eq-eqb v 10 e))
+made_some v n e = omega (arith, last_same is_lf v n (eq-eqb v 10 e))
 
 pub made_none : (v n : ℕ) → (v ≡ 10 → ⊥) → 0 ≡ last_row is_lf (replicate n v)
-made_none v n e = omega (arith, last-others is_lf v n (ne_eqb v 10 e))
+made_none v n e = omega (arith, last_others is_lf v n (ne_eqb v 10 e))
 
 -- with a part of the payload behind it
 pub brought-few : (v n k m : ℕ) (y : List ℕ) → k ≡ last_row is_lf (replicate n v) → m ≡ last_row is_lf y → (k ≤ n) × (m ≤ length y)
 brought-few v n k m y e f = (omega (arith, last_le is_lf (replicate n v), length-replicate n v), omega (arith, last_le is_lf y))
 
 pub brought-is : (v n k m : ℕ) (y : List ℕ) → k ≡ last_row is_lf (replicate n v) → m ≡ last_row is_lf y → k + m ≡ last_row is_lf (replicate n v ++ y)
-brought-is v n k m y e f = omega (arith, last-append is_lf (replicate n v) y)
+brought-is v n k m y e f = omega (arith, last_append is_lf (replicate n v) y)
 
 -- ---- the sums after i steps, which pass over `next` of t and `taken` of x; the bounds are those of numbers of 32 bits
 

@@ -18,7 +18,7 @@ use Rattle.edit.specs.declared.MotionKind.TheVariants.{Block}
 use Rattle.edit.specs.declared.Edit.TheVariants.{DeleteRange, JoinLines, SplitLines, InsertBlock, DeleteBlockChunks}
 use Rattle.edit.specs.Edits.{pieces, chunks_of, corner, height, breadth, any_flag, joined, split, block_inserted, chunks_deleted, range_deleted, edited_by}
 use Rattle.edit.specs.Refusals.{is_space, spaces, sum, within_all, within_ok}
-use Rattle.edit.proofs.Joins.{below_last, join_cols-length, join_flags-length}
+use Rattle.edit.proofs.Joins.{join_cols-length, join_flags-length}
 use Rattle.edit.proofs.Blocks.{pads_of-length, chunks_of-length, pieces-length}
 use Rattle.steps.specs.declared.Resolved.{Resolved}
 use Rattle.steps.specs.Steps.{ahead}
@@ -30,6 +30,9 @@ use Rattle.joining.specs.Joining.{filled, join_from}
 use Rattle.resolve.proofs.Wholes.{row_slice, join-whole, join-bounded, split-whole, put_whole, put-absent, cut_whole, cut_absent}
 
 -- ---- joins
+
+below_last : (k r : ℕ) → k - suc r ≡ k - 1 - r
+below_last k r = omega arith
 
 module _ (t x f s l : List ℕ) (row : Row) (count : ℕ) (b : Bool) (g : Span) (eg : g ≡ span is_lf t row.0) (m n : ℕ) where
   abbrev r : ℕ

@@ -1,4 +1,6 @@
 pub mod Stored
+pub mod Lasts
+pub mod Parts
 pub mod Laws
 pub mod Splits
 pub mod Sums

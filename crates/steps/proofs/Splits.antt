@@ -12,9 +12,9 @@ use Rattle.text.specs.Rows.{Line, line, lines, unlines, last_row}
 use Rattle.edit.specs.Edits.{Made, unspace, split_first, split_row, split}
 use Rattle.steps.specs.Steps.{Step, woven, passed}
 use Rattle.steps.specs.Kinds.{first_at, behind, split_steps, split_at}
-use Rattle.promise.proofs.Lists.{drop-take, take-both}
+use Rattle.steps.proofs.Parts.{drop-take, take-both}
 use Rattle.text.proofs.Broken.{unlines-append}
-use Rattle.steps.proofs.Laws.{from_row, row_cons, back}
+use Rattle.steps.proofs.Laws.{from_row_lem, row_cons, back}
 
 module _ {A : Type 0} (lf sp : A → Bool) (made : Made A) where
   -- what is left of z is z without its first g
@@ -131,4 +131,4 @@ module _ {A : Type 0} (lf sp : A → Bool) (made : Made A) where
       let e : drop r L ≡ x ∷ below = row_cons lf sp made t row in
       let w : unlines (split_row lf sp made x cs fs) ≡ woven made.break R (x.body ++ x.after) = split-woven x.body x.after cs fs in
       let l : passed R ≤ length (x.body ++ x.after) = omega (arith, split-passed x.body cs fs, length-append x.body x.after) in
-      from_row lf made.break t r _ _ (unlines-append (split_row lf sp made x cs fs) below ∙ ap (λ (l : List A). l ++ unlines below) w ∙ sym (woven-front made.break R (x.body ++ x.after) (unlines below) l) ∙ ap (woven made.break R) (append_assoc x.body x.after (unlines below) ∙ back lf sp made x below (drop r L) e))
+      from_row_lem lf made.break t r _ _ (unlines-append (split_row lf sp made x cs fs) below ∙ ap (λ (l : List A). l ++ unlines below) w ∙ sym (woven-front made.break R (x.body ++ x.after) (unlines below) l) ∙ ap (woven made.break R) (append_assoc x.body x.after (unlines below) ∙ back lf sp made x below (drop r L) e))

@@ -7,6 +7,7 @@ ghost use Prim.Native.Nat.{◌+◌, ◌*◌, ◌≤◌};
 ghost use lib.ListN.{length, take};
 ghost use Rattle.text.specs.Rows.{clamp as clamp_in};
 ghost use Rattle.text.specs.Text.{is_lf, text_limit, renewed};
+ghost use Rattle.edit.specs.declared.Answer.TheVariants.{Done};
 ghost use Rattle.edit.specs.declared.Edit.TheVariants.{Replace};
 ghost use Rattle.edit.specs.Edits.{inserted};
 ghost use Rattle.edit.specs.Refusals.{within_ok};
@@ -14,9 +15,10 @@ ghost use Rattle.edit.specs.Call.{paper_answer, Lent, text_of, result_of, outcom
 ghost use Rattle.steps.specs.Numbers.{cut_by, size_by};
 ghost use Rattle.steps.specs.Resolves.{Resolves};
 ghost use Rattle.resolve.specs.Admits.{Admitted, cut_first, most_steps};
+ghost use Rattle.work.specs.Answers.{done_as};
 
-use edit::{Answer, Edit, Plan, Terms, Verdict, View};
-use plan::{done, end_after, judge};
+use edit::{Answer, Applied, Edit, Plan, Room, Verdict, View};
+use plan::{end_after, judge, next_view};
 use recording::{record_cut, record_lists, sum_steps};
 use resolve::{most_steps, resolve};
 use rows::{clamp, locate};
@@ -66,11 +68,24 @@ fn cursor_in(text: &[u32], cursor: Position, settled: bool) -> Position
     clamp(text, cursor)
 }
 
+// The answer of an accepted edit: the one place where an `Applied` is made.
+fn done(view: View, plan: Plan, cursor: Position, inverse: Edit) -> Answer
+    ensures { result ≡ Done (done_as view plan cursor inverse) }
+{
+    Answer::Done(Applied {
+        view: next_view(view, plan.used, cursor),
+        inverse,
+        payload: plan.payload,
+        first: plan.first,
+        second: plan.second,
+    })
+}
+
 // The edit done, with `steps` for its own use.
 fn work_by(
     text: &mut [u32],
     view: View,
-    terms: Terms,
+    room: Room,
     edit: Edit,
     payload: &[u32],
     first: &[u32],
@@ -80,14 +95,14 @@ fn work_by(
     outsecond: &mut [u32],
     steps: &mut [u32],
 ) -> Answer
-    requires { (view.used ≤ length text.old) × (view.used ≤ text_limit) × Admitted edit payload.now first.now second.now (take view.used text.old) × (5 * most_steps edit (length first.now) ≤ length steps.old) × (terms ≡ record { buffer = length text.old; payload = length outpayload.old; first = length outfirst.old; second = length outsecond.old }) × (cut_first edit ≡ edit) }
-    ensures { (l : Lent) → l.buffer ≡ text.old → l.payload ≡ payload.now → l.first ≡ first.now → l.second ≡ second.now → l.out_payload ≡ outpayload.old → l.out_first ≡ outfirst.old → l.out_second ≡ outsecond.old → outcome (paper_answer result) text.new outpayload.new outfirst.new outsecond.new ≡ finished (within_ok (text_of view l) edit l.first l.second) terms view l (result_of view edit l) }
+    requires { (view.used ≤ length text.old) × (view.used ≤ text_limit) × Admitted edit payload.now first.now second.now (take view.used text.old) × (5 * most_steps edit (length first.now) ≤ length steps.old) × (room ≡ record { buffer = length text.old; payload = length outpayload.old; first = length outfirst.old; second = length outsecond.old }) × (cut_first edit ≡ edit) }
+    ensures { (l : Lent) → l.buffer ≡ text.old → l.payload ≡ payload.now → l.first ≡ first.now → l.second ≡ second.now → l.out_payload ≡ outpayload.old → l.out_first ≡ outfirst.old → l.out_second ≡ outsecond.old → outcome (paper_answer result) text.new outpayload.new outfirst.new outsecond.new ≡ finished (within_ok (text_of view l) edit l.first l.second) view l (result_of view edit l) }
 {
     let used = view.used;
     let planned = plan_edit(&text[0..used], edit, payload, first, second, steps);
     let found = planned.found;
     let plan = planned.plan;
-    let verdict = judge(found.within, terms, plan);
+    let verdict = judge(found.within, room, plan);
     if let Verdict::Bad(why) = verdict {
         return Answer::Refused(why);
     }
@@ -105,7 +120,7 @@ fn work_by(
 fn work_rows(
     text: &mut [u32],
     view: View,
-    terms: Terms,
+    room: Room,
     edit: Edit,
     most: usize,
     payload: &[u32],
@@ -115,20 +130,19 @@ fn work_rows(
     outfirst: &mut [u32],
     outsecond: &mut [u32],
 ) -> Answer
-    requires { (view.used ≤ length text.old) × (view.used ≤ text_limit) × Admitted edit payload.now first.now second.now (take view.used text.old) × (most ≡ most_steps edit (length first.now)) × (terms ≡ record { buffer = length text.old; payload = length outpayload.old; first = length outfirst.old; second = length outsecond.old }) × (cut_first edit ≡ edit) }
-    ensures { (l : Lent) → l.buffer ≡ text.old → l.payload ≡ payload.now → l.first ≡ first.now → l.second ≡ second.now → l.out_payload ≡ outpayload.old → l.out_first ≡ outfirst.old → l.out_second ≡ outsecond.old → outcome (paper_answer result) text.new outpayload.new outfirst.new outsecond.new ≡ finished (within_ok (text_of view l) edit l.first l.second) terms view l (result_of view edit l) }
+    requires { (view.used ≤ length text.old) × (view.used ≤ text_limit) × Admitted edit payload.now first.now second.now (take view.used text.old) × (most ≡ most_steps edit (length first.now)) × (room ≡ record { buffer = length text.old; payload = length outpayload.old; first = length outfirst.old; second = length outsecond.old }) × (cut_first edit ≡ edit) }
+    ensures { (l : Lent) → l.buffer ≡ text.old → l.payload ≡ payload.now → l.first ≡ first.now → l.second ≡ second.now → l.out_payload ≡ outpayload.old → l.out_first ≡ outfirst.old → l.out_second ≡ outsecond.old → outcome (paper_answer result) text.new outpayload.new outfirst.new outsecond.new ≡ finished (within_ok (text_of view l) edit l.first l.second) view l (result_of view edit l) }
 {
     if most <= 32 {
         let mut steps = [0; 160];
         return work_by(
-            text, view, terms, edit, payload, first, second, outpayload, outfirst, outsecond,
+            text, view, room, edit, payload, first, second, outpayload, outfirst, outsecond,
             &mut steps,
         );
     }
     let mut steps = [0; 1280];
     work_by(
-        text, view, terms, edit, payload, first, second, outpayload, outfirst, outsecond,
-        &mut steps,
+        text, view, room, edit, payload, first, second, outpayload, outfirst, outsecond, &mut steps,
     )
 }
 
@@ -136,7 +150,7 @@ fn work_rows(
 pub fn work(
     text: &mut [u32],
     view: View,
-    terms: Terms,
+    room: Room,
     edit: Edit,
     payload: &[u32],
     first: &[u32],
@@ -145,19 +159,19 @@ pub fn work(
     outfirst: &mut [u32],
     outsecond: &mut [u32],
 ) -> Answer
-    requires { (view.used ≤ length text.old) × (view.used ≤ text_limit) × Admitted edit payload.now first.now second.now (take view.used text.old) × (terms ≡ record { buffer = length text.old; payload = length outpayload.old; first = length outfirst.old; second = length outsecond.old }) × (cut_first edit ≡ edit) }
-    ensures { (l : Lent) → l.buffer ≡ text.old → l.payload ≡ payload.now → l.first ≡ first.now → l.second ≡ second.now → l.out_payload ≡ outpayload.old → l.out_first ≡ outfirst.old → l.out_second ≡ outsecond.old → outcome (paper_answer result) text.new outpayload.new outfirst.new outsecond.new ≡ finished (within_ok (text_of view l) edit l.first l.second) terms view l (result_of view edit l) }
+    requires { (view.used ≤ length text.old) × (view.used ≤ text_limit) × Admitted edit payload.now first.now second.now (take view.used text.old) × (room ≡ record { buffer = length text.old; payload = length outpayload.old; first = length outfirst.old; second = length outsecond.old }) × (cut_first edit ≡ edit) }
+    ensures { (l : Lent) → l.buffer ≡ text.old → l.payload ≡ payload.now → l.first ≡ first.now → l.second ≡ second.now → l.out_payload ≡ outpayload.old → l.out_first ≡ outfirst.old → l.out_second ≡ outsecond.old → outcome (paper_answer result) text.new outpayload.new outfirst.new outsecond.new ≡ finished (within_ok (text_of view l) edit l.first l.second) view l (result_of view edit l) }
 {
     let most = most_steps(edit, first.len());
     if most <= 1 {
         let mut steps = [0; 5];
         return work_by(
-            text, view, terms, edit, payload, first, second, outpayload, outfirst, outsecond,
+            text, view, room, edit, payload, first, second, outpayload, outfirst, outsecond,
             &mut steps,
         );
     }
     work_rows(
-        text, view, terms, edit, most, payload, first, second, outpayload, outfirst, outsecond,
+        text, view, room, edit, most, payload, first, second, outpayload, outfirst, outsecond,
     )
 }
 
@@ -189,14 +203,14 @@ fn insert_at(text: &mut [u32], used: usize, at: Position, payload: &[u32]) -> In
 pub fn replace(
     text: &mut [u32],
     view: View,
-    terms: Terms,
+    room: Room,
     start: Position,
     end: Position,
     payload: &[u32],
     outpayload: &mut [u32],
 ) -> Answer
-    requires { (view.used ≤ length text.old) × (view.used ≤ text_limit) × (length payload.now ≤ text_limit) × (terms.buffer ≡ length text.old) × (terms.payload ≡ length outpayload.old) }
-    ensures { (l : Lent) → l.buffer ≡ text.old → l.payload ≡ payload.now → l.out_payload ≡ outpayload.old → outcome (paper_answer result) text.new outpayload.new l.out_first l.out_second ≡ finished true terms view l (result_of view (Replace start end) l) }
+    requires { (view.used ≤ length text.old) × (view.used ≤ text_limit) × (length payload.now ≤ text_limit) × (room.buffer ≡ length text.old) × (room.payload ≡ length outpayload.old) }
+    ensures { (l : Lent) → l.buffer ≡ text.old → l.payload ≡ payload.now → l.out_payload ≡ outpayload.old → outcome (paper_answer result) text.new outpayload.new l.out_first l.out_second ≡ finished true view l (result_of view (Replace start end) l) }
 {
     let used = view.used;
     let mut steps = [0; 5];
@@ -210,7 +224,7 @@ pub fn replace(
         first: 0,
         second: 0,
     };
-    let verdict = judge(true, terms, plan);
+    let verdict = judge(true, room, plan);
     if let Verdict::Bad(why) = verdict {
         return Answer::Refused(why);
     }

@@ -1,0 +1,26 @@
+use native.Mathlib.Omega.{arith}
+use Rattle.text.specs.Text.{is_lf}
+use Rattle.text.proofs.Laws.{len_le}
+use Rattle.cutting.proofs.CutRows.{cut_none, cut_one, cut_on}
+use Rattle.cutting.proofs.+cut_steps.Goals as goal
+
+pub returns-then-n-eq0-clause-come : goal.returns-then-n-eq0-clause-come
+returns-then-n-eq0-clause-come t c = let a = c.args in let P = cut_none a.text.now a.widths.now a.pads.now a.carry a.col.0 a.steps.now c.if-n-eq0.true c.requires.1 in P.1.0
+
+pub returns-then-n-eq0-clause-by_index : goal.returns-then-n-eq0-clause-by_index
+returns-then-n-eq0-clause-by_index t c = let a = c.args in let P = cut_none a.text.now a.widths.now a.pads.now a.carry a.col.0 a.steps.now c.if-n-eq0.true c.requires.1 in P.1.1
+
+pub overflow_add-carry : goal.overflow_add-carry
+overflow_add-carry t c = omega (arith, len_le is_lf c.args.text.now 0)
+
+pub returns-then-text-next-clause-come : goal.returns-then-text-next-clause-come
+returns-then-text-next-clause-come t c = let a = c.args in let P = cut_one a.text.now a.widths.now a.pads.now a.carry a.col.0 c.requires.1 c.if-n-eq0.false c.line_char_count-len.ensures c.row_cut-cut.ensures c.put_step.ensures c.if-text-next.true in P.1.0
+
+pub returns-then-text-next-clause-by_index : goal.returns-then-text-next-clause-by_index
+returns-then-text-next-clause-by_index t c = let a = c.args in let P = cut_one a.text.now a.widths.now a.pads.now a.carry a.col.0 c.requires.1 c.if-n-eq0.false c.line_char_count-len.ensures c.row_cut-cut.ensures c.put_step.ensures c.if-text-next.true in P.1.1
+
+pub returns-clause-come : goal.returns-clause-come
+returns-clause-come t c = let a = c.args in let E = c.cut_steps-more.ensures in let P = cut_on a.text.now a.widths.now a.pads.now a.carry a.col.0 c.requires.1 c.if-n-eq0.false c.line_char_count-len.ensures c.row_cut-cut.ensures c.put_step.ensures _ _ c.if-text-next.false c.one_of-skip.ensures (E.few, (E.come, E.by_index)) in P.1.0
+
+pub returns-clause-by_index : goal.returns-clause-by_index
+returns-clause-by_index t c = let a = c.args in let E = c.cut_steps-more.ensures in let P = cut_on a.text.now a.widths.now a.pads.now a.carry a.col.0 c.requires.1 c.if-n-eq0.false c.line_char_count-len.ensures c.row_cut-cut.ensures c.put_step.ensures _ _ c.if-text-next.false c.one_of-skip.ensures (E.few, (E.come, E.by_index)) in P.1.1
