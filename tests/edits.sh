@@ -21,6 +21,9 @@ fi
 if [[ $said =~ ,\ ([0-9]+)\ bad ]] && [ "${BASH_REMATCH[1]}" -ne 0 ]; then
     fail "${BASH_REMATCH[1]} are bad, and show nothing"
 fi
+if [[ $said =~ ,\ ([0-9]+)\ of\ them\ only\ by\ a\ limit ]]; then
+    fail "${BASH_REMATCH[1]} were refused only by a limit of the prover, which says nothing of them"
+fi
 edits=$(find crates -path 'crates/*/must-fail/*.edit' | wc -l)
 if [ "$edits" -ne "$refused" ]; then
     fail "$edits are here, and $refused were refused"

@@ -1,4 +1,4 @@
-// The one worker: an edit that rows 1 to 4 do not refuse is resolved into steps, summed, judged, recorded and stored.
+// One worker for every kind: an edit that rows 1 to 4 do not refuse is resolved into steps, summed, judged, recorded and stored.
 #![tactic(auto)]
 
 ghost use mathlib.Core.Path.{◌≡◌};
@@ -68,7 +68,7 @@ fn cursor_in(text: &[u32], cursor: Position, settled: bool) -> Position
     clamp(text, cursor)
 }
 
-// The answer of an accepted edit: the one place where an `Applied` is made.
+// The answer of an accepted edit.
 fn done(view: View, plan: Plan, cursor: Position, inverse: Edit) -> Answer
     ensures { result ≡ Done (done_as view plan cursor inverse) }
 {
