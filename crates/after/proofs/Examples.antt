@@ -7,4 +7,4 @@ use Rattle.after.specs.Examples.{RuledOut}
 
 pub ruled_out : RuledOut
 unfolding after_delete_block after_delete_block_chunks after_delete_char after_delete_lines after_insert after_join start_cols gap_len last_row lines onto row_count row_len
-ruled_out = record { insert = refl; insert-break = refl; cut = refl; cut_below = refl; line = refl; block = refl; chunk = refl; join = refl; join-below = refl }
+ruled_out = record { insert = refl; insert_break = refl; cut = refl; cut_below = refl; line = refl; block = refl; chunk = refl; join = refl; join_below = refl }

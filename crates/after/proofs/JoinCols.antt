@@ -227,8 +227,8 @@ module _ (p : Position) (row count : ℕ) (b : Bool) (t : List ℕ) where
     many : length cols ≡ m
     many = made ∙ sym e
 
-    pub join-below : m < p.row.0 - row → at (p.row.0 - m) p.col.0 ≡ after_join p row count b t
-    join-below l = ap (λ (n : ℕ). at (p.row.0 - n) p.col.0) (sym many) ∙ sym (landed_below row cols p (omega (arith, many))) ∙ join-landed
+    pub join_below : m < p.row.0 - row → at (p.row.0 - m) p.col.0 ≡ after_join p row count b t
+    join_below l = ap (λ (n : ℕ). at (p.row.0 - n) p.col.0) (sym many) ∙ sym (landed_below row cols p (omega (arith, many))) ∙ join-landed
 
     -- the rows past those that are joined do not count
     col_taken : p.row.0 - row ≤ m → get_or cols (p.row.0 - row - 1) 0 ≡ get_or (cols_of t row b) (p.row.0 - row - 1) 0

@@ -15,4 +15,4 @@ use Rattle.asked.specs.Examples.{RuledOut}
 
 pub ruled_out : RuledOut
 unfolding flatten form_by head_of insert_form line_form mark_form number_in ahead contents edit_of first_list digit_of hexed is_digit paired unhexed value_of chars_into frame_into read_into all stored prepend read_from begins number taken text_into edit_into
-ruled_out = record { no_text = refl; no_text-bad = refl; chars = refl; bad = refl; no_mark = refl; mark = refl; no_edit = refl; an_edit = refl }
+ruled_out = record { no_text = refl; no_text_bad = refl; chars = refl; bad = refl; no_mark = refl; mark = refl; no_edit = refl; an_edit = refl }

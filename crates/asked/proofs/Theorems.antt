@@ -46,7 +46,7 @@ edit_back_lem (as_edit.Refused r) = ap as_edit.Refused (refusal_back_lem r)
 
 pub all_settled : Settled
 all_settled = record {
-  read_text-line = settled (λ o. (text_back o.answer, o.out)) (λ x. ap (λ (r : TextRead). (r, x.1)) (text-back x.0));
+  read_text_line = settled (λ o. (text_back o.answer, o.out)) (λ x. ap (λ (r : TextRead). (r, x.1)) (text-back x.0));
   read_mark_line = settled mark_back mark_back_lem;
   read_edit_line = settled (λ o. (edit_back o.answer, o.payload, o.first, o.second)) (λ x. ap (λ (r : EditRead). (r, x.1, x.2, x.3)) (edit_back_lem x.0));
 }

@@ -16,7 +16,7 @@ pub record RuledOut : Type 0 where
   -- an edit's payload read as a text, or written before the line is refused
   pub no_text : text_into (line_form (hexed (0x10 ∷ (replicate 8 0 ++ (0x58 ∷ []))))) (9 ∷ []) ≡ outcome (refused 10 0) (9 ∷ [])
   -- a bad sequence of another frame answered as 5
-  pub no_text-bad : text_into (line_form (hexed (0x10 ∷ (replicate 8 0 ++ (0xFF ∷ []))))) (9 ∷ []) ≡ outcome (refused 10 0) (9 ∷ [])
+  pub no_text_bad : text_into (line_form (hexed (0x10 ∷ (replicate 8 0 ++ (0xFF ∷ []))))) (9 ∷ []) ≡ outcome (refused 10 0) (9 ∷ [])
   -- a text's first byte counted among its characters; the rest of the slice cleared
   pub chars : text_into (line_form (hexed (0x01 ∷ 0x61 ∷ []))) (9 ∷ 9 ∷ []) ≡ outcome (done 1) (0x61 ∷ 9 ∷ [])
   -- the offset of a bad sequence counted in the text

@@ -9,6 +9,6 @@ use Rattle.asked.specs.Calls.{paper_text, paper_mark, paper_edit}
 
 -- Each public promise settles its answer and every slice that was lent to be written.
 pub record Settled : Type 0 where
-  pub read_text-line : Settles {A = TextRead × List ℕ} (λ o. outcome (paper_text o.0) o.1)
+  pub read_text_line : Settles {A = TextRead × List ℕ} (λ o. outcome (paper_text o.0) o.1)
   pub read_mark_line : Settles paper_mark
   pub read_edit_line : Settles {A = EditRead × List ℕ × List ℕ × List ℕ} (λ o. filled (paper_edit o.0) o.1 o.2 o.3)

@@ -19,14 +19,14 @@ pub record RuledOut : Type 0 where
   -- "its defaults included": what is not assigned yet read as narrow; the last two of a plane read as wide
   pub unassigned : is_wide 0xFADA ≡ true
   pub plane_two : is_wide 0x2FFFD ≡ true
-  pub behind-it : is_wide 0x2FFFE ≡ false
+  pub behind_it : is_wide 0x2FFFE ≡ false
   pub plane_three : is_wide 0x3FFFD ≡ true
   pub last : is_wide 0x10FFFF ≡ false
   -- a range one too long or too short at either end
-  pub before-first : is_wide 0x10FF ≡ false
+  pub before_first : is_wide 0x10FF ≡ false
   pub first : is_wide 0x1100 ≡ true
   pub first_end : is_wide 0x115F ≡ true
-  pub behind-first : is_wide 0x1160 ≡ false
+  pub behind_first : is_wide 0x1160 ≡ false
   -- a tab of its own width wherever it stands; one that stays where it is a multiple; a tab width of 0 that divides, or acts as 2
   pub tab : width 4 (97 ∷ 9 ∷ 97 ∷ []) ≡ 5
   pub tab_again : width 4 (9 ∷ 9 ∷ []) ≡ 8

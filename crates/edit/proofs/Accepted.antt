@@ -28,7 +28,7 @@ holds n t = leb (length t) n && short t && all admissible t
 abbrev pub Ok : ℕ → List ℕ → Type 0
 Ok n t = T (holds n t)
 
--- every test passes but that for the record, which is never longer than demand 3's slices (`inverse-fits`)
+-- every test passes but that for the record, which is never longer than demand 3's slices (`inverse_fits`)
 pub record Fine (n : ℕ) (t : List ℕ) (w : Whole ℕ) : Type 0 where
   pub textual : Ok n t
   pub smalls : T (small_ok w.edit w.first w.second)

@@ -25,12 +25,12 @@ unfolding onto lines unlines row_count last_row row_len row_start clamp offset e
 further_examples = record {
   insert = refl;
   cut_past = refl;
-  join-below = refl;
-  line-below = refl;
-  split-no_space = refl;
-  split-past = refl;
-  split-order = refl;
-  split-surplus = refl;
+  join_below = refl;
+  line_below = refl;
+  split_no_space = refl;
+  split_past = refl;
+  split_order = refl;
+  split_surplus = refl;
   block_padded = refl;
   chunk_padded = refl;
   chunk_all = refl;
@@ -47,7 +47,7 @@ first_refusals = record { bad_text = refl; too_big = refl; too_many = refl; bad_
 
 pub ruled_out : RuledOut
 unfolding onto lines unlines row_count last_row row_len row_start clamp offset end_of in_text admissible all text_ok renewed scalar flatten inserted chars_deleted line_from line_to lines_deleted replaced gap join_row join_cols join_flags put put_all pads_of pieces cut_all chunks_of any_flag joined unspace split_first split_row split block_inserted chunks_deleted range_deleted edited_by sum small_range small_ok few_rows few_ok payload_ok within_first within_all within_ok room_ok record_ok wide first_of result_of leaves applied range_undoable is_undoable undoable
-ruled_out = record { insert-in = refl; cut = refl; cut_back = refl; cut_crossed = refl; cut_short = refl; cut_long = refl; lines-up = refl; join-empty = refl; split-above = refl; split-space = refl; block_absent = refl; block_past = refl; block_below = refl; block_rows = refl; block_above = refl; chunk_absent = refl; chunk_above = refl; block_cut = refl; block_corner = refl; big_flag = refl; big_end = refl; many_flags = refl; many_joins = refl; rows-down = refl; rows-up = refl; two_characters = refl; lengths = refl; break_first = refl; replace_bad = refl; no_second = refl }
+ruled_out = record { insert_in = refl; cut = refl; cut_back = refl; cut_crossed = refl; cut_short = refl; cut_long = refl; lines_up = refl; join_empty = refl; split_above = refl; split_space = refl; block_absent = refl; block_past = refl; block_below = refl; block_rows = refl; block_above = refl; chunk_absent = refl; chunk_above = refl; block_cut = refl; block_corner = refl; big_flag = refl; big_end = refl; many_flags = refl; many_joins = refl; rows_down = refl; rows_up = refl; two_characters = refl; lengths = refl; break_first = refl; replace_bad = refl; no_second = refl }
 
 pub room_filled : RoomFilled
 unfolding onto lines unlines row_count last_row row_len row_start clamp offset end_of in_text admissible all text_ok renewed scalar flatten inserted chars_deleted line_from line_to lines_deleted replaced gap join_row join_cols join_flags put put_all pads_of pieces cut_all chunks_of any_flag joined unspace split_first split_row split block_inserted chunks_deleted range_deleted edited_by sum small_range small_ok few_rows few_ok payload_ok within_first within_all within_ok room_ok record_ok wide first_of result_of leaves applied range_undoable is_undoable undoable

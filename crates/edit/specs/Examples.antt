@@ -68,16 +68,16 @@ pub record FurtherExamples : Type 0 where
   -- "Inverse: InsertStr of the cut text at the *unclamped* ordered start", which is marked example 4: "ab/cdef", Char (0,99)-(1,2)
   pub cut_past : Gives abcdef (plain (DeleteRange (at 0 99) (at 1 2) Char) []) (97 ∷ 98 ∷ 101 ∷ 102 ∷ []) (plain (InsertStr (at 0 99)) (10 ∷ 99 ∷ 100 ∷ [])) (at 0 4)
   -- "Cursor: (row,0)", "Cursor: lo .. column 0", below the first row
-  pub join-below : Gives three_rows (plain (JoinLines (row_at 1) 1 false) []) (97 ∷ 10 ∷ 98 ∷ 99 ∷ []) (whole (SplitLines (row_at 1)) [] (1 ∷ []) (0 ∷ [])) (at 1 0)
-  pub line-below : Gives three_rows (plain (DeleteRange (at 1 0) (at 1 0) Lines) []) (97 ∷ 10 ∷ 99 ∷ []) (plain (InsertStr (at 1 0)) (98 ∷ 10 ∷ [])) (at 1 0)
+  pub join_below : Gives three_rows (plain (JoinLines (row_at 1) 1 false) []) (97 ∷ 10 ∷ 98 ∷ 99 ∷ []) (whole (SplitLines (row_at 1)) [] (1 ∷ []) (0 ∷ [])) (at 1 0)
+  pub line_below : Gives three_rows (plain (DeleteRange (at 1 0) (at 1 0) Lines) []) (97 ∷ 10 ∷ 99 ∷ []) (plain (InsertStr (at 1 0)) (98 ∷ 10 ∷ [])) (at 1 0)
   -- "a space at the column is removed if there": here none is
-  pub split-no_space : Gives abc (whole (SplitLines (row_at 0)) [] (1 ∷ []) (1 ∷ [])) (97 ∷ 10 ∷ 98 ∷ 99 ∷ []) (plain (JoinLines (row_at 0) 1 true) []) (at 0 0)
+  pub split_no_space : Gives abc (whole (SplitLines (row_at 0)) [] (1 ∷ []) (1 ∷ [])) (97 ∷ 10 ∷ 98 ∷ 99 ∷ []) (plain (JoinLines (row_at 0) 1 true) []) (at 0 0)
   -- "Flag no: the column is clamped to the row's length at that step", and a missing flag is no
-  pub split-past : Gives abc (whole (SplitLines (row_at 0)) [] (9 ∷ []) []) (97 ∷ 98 ∷ 99 ∷ 10 ∷ []) (plain (JoinLines (row_at 0) 1 false) []) (at 0 0)
+  pub split_past : Gives abc (whole (SplitLines (row_at 0)) [] (9 ∷ []) []) (97 ∷ 98 ∷ 99 ∷ 10 ∷ []) (plain (JoinLines (row_at 0) 1 false) []) (at 0 0)
   -- "columns taken last first", as they stand in their list
-  pub split-order : Gives abc (whole (SplitLines (row_at 0)) [] (2 ∷ 1 ∷ []) []) (97 ∷ 10 ∷ 10 ∷ 98 ∷ 99 ∷ []) (plain (JoinLines (row_at 0) 2 false) []) (at 0 0)
+  pub split_order : Gives abc (whole (SplitLines (row_at 0)) [] (2 ∷ 1 ∷ []) []) (97 ∷ 10 ∷ 10 ∷ 98 ∷ 99 ∷ []) (plain (JoinLines (row_at 0) 2 false) []) (at 0 0)
   -- "if any flag, surplus ones included, is yes"
-  pub split-surplus : Gives abc (whole (SplitLines (row_at 0)) [] (1 ∷ []) (0 ∷ 1 ∷ [])) (97 ∷ 10 ∷ 98 ∷ 99 ∷ []) (plain (JoinLines (row_at 0) 1 true) []) (at 0 0)
+  pub split_surplus : Gives abc (whole (SplitLines (row_at 0)) [] (1 ∷ []) (0 ∷ 1 ∷ [])) (97 ∷ 10 ∷ 98 ∷ 99 ∷ []) (plain (JoinLines (row_at 0) 1 true) []) (at 0 0)
   -- "padded with spaces to the column if shorter"; "Inverse: DeleteBlockChunks with widths and pads"
   pub block_padded : Gives (97 ∷ []) (whole (InsertBlock (at 0 2)) (88 ∷ []) (1 ∷ []) []) (97 ∷ 32 ∷ 88 ∷ []) (whole (DeleteBlockChunks (at 0 2)) [] (1 ∷ []) (1 ∷ [])) (at 0 2)
   -- "cut from column minus pad (not below 0) to column plus width": pad 1, pad 3, and none
@@ -119,7 +119,7 @@ pub record FirstRefusals : Type 0 where
 -- Each line is what the promise asks for at one edit, and above it stands the program that leaves something else there.
 pub record RuledOut : Type 0 where
   -- the end of an insertion counted from its row
-  pub insert-in : Gives abc (plain (InsertStr (at 0 2)) (88 ∷ [])) (97 ∷ 98 ∷ 88 ∷ 99 ∷ []) (plain (DeleteRange (at 0 2) (at 0 3) Char) []) (at 0 3)
+  pub insert_in : Gives abc (plain (InsertStr (at 0 2)) (88 ∷ [])) (97 ∷ 98 ∷ 88 ∷ 99 ∷ []) (plain (DeleteRange (at 0 2) (at 0 3) Char) []) (at 0 3)
   -- the cursor of a cut at its end; one end taken for both
   pub cut : Gives abc (plain (DeleteRange (at 0 0) (at 0 2) Char) []) (99 ∷ []) (plain (InsertStr (at 0 0)) (97 ∷ 98 ∷ [])) (at 0 0)
   -- what was cut put back in at the first end named, in order or not
@@ -133,13 +133,13 @@ pub record RuledOut : Type 0 where
   pub cut_long :
       Gives six_rows (plain (DeleteRange (at 0 0) (at 2 1) Char) []) (10 ∷ 100 ∷ 10 ∷ 101 ∷ 10 ∷ 102 ∷ []) (plain (InsertStr (at 0 0)) (97 ∷ 10 ∷ 98 ∷ 10 ∷ 99 ∷ [])) (at 0 0)
   -- one end of a Line delete taken for both; the larger of two rows always the second
-  pub lines-up : Gives three_rows (plain (DeleteRange (at 1 0) (at 0 0) Lines) []) (99 ∷ []) (plain (InsertStr (at 0 0)) (97 ∷ 10 ∷ 98 ∷ 10 ∷ [])) (at 0 0)
+  pub lines_up : Gives three_rows (plain (DeleteRange (at 1 0) (at 0 0) Lines) []) (99 ∷ []) (plain (InsertStr (at 0 0)) (97 ∷ 10 ∷ 98 ∷ 10 ∷ [])) (at 0 0)
   -- a space put behind an empty row
-  pub join-empty : Gives (10 ∷ 98 ∷ []) (plain (JoinLines (row_at 0) 1 true) []) (98 ∷ []) (whole (SplitLines (row_at 0)) [] (0 ∷ []) (0 ∷ [])) (at 0 0)
+  pub join_empty : Gives (10 ∷ 98 ∷ []) (plain (JoinLines (row_at 0) 1 true) []) (98 ∷ []) (whole (SplitLines (row_at 0)) [] (0 ∷ []) (0 ∷ [])) (at 0 0)
   -- the rows below a split written over
-  pub split-above : Gives abcd (whole (SplitLines (row_at 0)) [] (1 ∷ []) []) (97 ∷ 10 ∷ 98 ∷ 99 ∷ 10 ∷ 100 ∷ []) (plain (JoinLines (row_at 0) 1 false) []) (at 0 0)
+  pub split_above : Gives abcd (whole (SplitLines (row_at 0)) [] (1 ∷ []) []) (97 ∷ 10 ∷ 98 ∷ 99 ∷ 10 ∷ 100 ∷ []) (plain (JoinLines (row_at 0) 1 false) []) (at 0 0)
   -- a space at a column with a flag kept
-  pub split-space : Gives (97 ∷ 32 ∷ 98 ∷ []) (whole (SplitLines (row_at 0)) [] (1 ∷ []) (1 ∷ [])) (97 ∷ 10 ∷ 98 ∷ []) (plain (JoinLines (row_at 0) 1 true) []) (at 0 0)
+  pub split_space : Gives (97 ∷ 32 ∷ 98 ∷ []) (whole (SplitLines (row_at 0)) [] (1 ∷ []) (1 ∷ [])) (97 ∷ 10 ∷ 98 ∷ []) (plain (JoinLines (row_at 0) 1 true) []) (at 0 0)
   -- rows counted that the text does not have; their pads left as they were
   pub block_absent :
       Gives (97 ∷ []) (whole (InsertBlock (at 0 0)) (88 ∷ 89 ∷ []) (1 ∷ 1 ∷ []) []) (88 ∷ 97 ∷ []) (whole (DeleteBlockChunks (at 0 0)) [] (1 ∷ 1 ∷ []) (0 ∷ 0 ∷ [])) (at 0 0)
@@ -173,8 +173,8 @@ pub record RuledOut : Type 0 where
   pub many_flags : Refuses abc (whole (SplitLines (row_at 0)) [] [] (replicate 257 0)) 3
   pub many_joins : few_ok (replicate 257 10) (JoinLines (row_at 0) 257 false) [] [] [] ≡ false
   -- a block of 257 rows counted one row short, and one of 256, named upwards, one row too long: that one lacks but a record
-  pub rows-down : Refuses [] (plain (DeleteRange (at 0 0) (at 256 0) Block) []) 3
-  pub rows-up : Refuses [] (plain (DeleteRange (at 255 0) (at 0 0) Block) []) 9
+  pub rows_down : Refuses [] (plain (DeleteRange (at 0 0) (at 256 0) Block) []) 3
+  pub rows_up : Refuses [] (plain (DeleteRange (at 255 0) (at 0 0) Block) []) 9
   -- InsertChar of two characters; chunk lengths that sum to their own number; an LF that is not the last character; a Replace by any values
   pub two_characters : Refuses [] (plain (InsertChar (at 0 0)) (97 ∷ 98 ∷ [])) 4
   pub lengths : Refuses [] (whole (InsertBlock (at 0 0)) (97 ∷ 98 ∷ []) (1 ∷ []) []) 4

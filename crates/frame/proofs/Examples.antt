@@ -7,4 +7,4 @@ use Rattle.frame.specs.Examples.{RuledOut}
 
 pub ruled_out : RuledOut
 unfolding before block_form block_of chunks_form columns_in delete_form flagged flags_in form_by insert_form join_form kind_form mark_form pads_in replace_form split_form strings_from widths_in items number_in all
-ruled_out = record { insert = refl; kind_line = refl; three = refl; mark_longer = refl; join-flag = refl; half_chunk = refl }
+ruled_out = record { insert = refl; kind_line = refl; three = refl; mark_longer = refl; join_flag = refl; half_chunk = refl }

@@ -15,5 +15,5 @@ pub record RuledOut : Type 0 where
   pub three : form_of (0x03 ∷ replicate 16 0) ≡ malformed
   pub mark_longer : form_of (0x02 ∷ replicate 17 0) ≡ malformed
   -- a join's flag byte 2; half a chunk
-  pub join-flag : form_of (0x12 ∷ (replicate 8 0 ++ (2 ∷ []))) ≡ malformed
+  pub join_flag : form_of (0x12 ∷ (replicate 8 0 ++ (2 ∷ []))) ≡ malformed
   pub half_chunk : form_of (0x16 ∷ replicate 12 0) ≡ malformed

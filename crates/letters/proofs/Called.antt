@@ -171,7 +171,7 @@ never_pass (step {s = s} {u = v} {e = w} h r) p q mp mq u = (
         l.q',
         answers h p l.p' sp l.lands_p c,
         answers h q l.q' sq l.lands_q d,
-        never_pass r l.p' l.q' (subst (λ (x : List ℕ). Markable x l.p') t l.kept-p) (subst (λ (x : List ℕ). Markable x l.q') t l.kept-q) l.order,
+        never_pass r l.p' l.q' (subst (λ (x : List ℕ). Markable x l.p') t l.kept_p) (subst (λ (x : List ℕ). Markable x l.q') t l.kept_q) l.order,
       ),
 )
 

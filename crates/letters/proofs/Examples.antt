@@ -62,12 +62,12 @@ needed = record {
   pad = record { before = []; behind = []; c = traced 98 (opening (at 0 1)); stands = refl; from = refl; there = refl; shift = refl };
   chars_back = record { before = []; behind = []; c = traced 97 (opening (at 1 0)); stands = refl; from = refl; there = refl; shift = refl };
   replace_back = record { before = []; behind = []; c = traced 97 (opening (at 1 0)); stands = refl; from = refl; there = refl; shift = refl };
-  lines-back = record { before = []; behind = []; c = traced 99 (opening (at 2 0)); stands = refl; from = refl; there = refl; shift = refl };
+  lines_back = record { before = []; behind = []; c = traced 99 (opening (at 2 0)); stands = refl; from = refl; there = refl; shift = refl };
   chars_start = record { before = []; behind = []; c = traced 97 (opening (at 1 0)); stands = refl; from = refl; there = refl; shift = refl };
   chars_end = record { before = traced 97 (opening (at 0 0)) ∷ []; behind = []; c = traced 98 (opening (at 0 1)); stands = refl; from = refl; there = refl; shift = refl };
   replace_start = record { before = []; behind = []; c = traced 97 (opening (at 1 0)); stands = refl; from = refl; there = refl; shift = refl };
   replace_end = record { before = traced 97 (opening (at 0 0)) ∷ []; behind = []; c = traced 98 (opening (at 0 1)); stands = refl; from = refl; there = refl; shift = refl };
-  insert-past = record { before = traced 88 (payload 0 0) ∷ []; behind = []; c = traced 97 (opening (at 0 0)); stands = refl; from = refl; there = refl; shift = refl };
+  insert_past = record { before = traced 88 (payload 0 0) ∷ []; behind = []; c = traced 97 (opening (at 0 0)); stands = refl; from = refl; there = refl; shift = refl };
   char_past = record { before = traced 88 (payload 0 0) ∷ []; behind = []; c = traced 97 (opening (at 0 0)); stands = refl; from = refl; there = refl; shift = refl };
   chunk_break = record { before = traced 10 (payload 0 0) ∷ []; behind = []; c = traced 97 (opening (at 0 0)); stands = refl; from = refl; there = refl; shift = refl };
   chunk_short = record { before = []; behind = []; c = traced 97 (opening (at 0 0)); stands = refl; from = refl; there = refl; shift = refl };
@@ -82,7 +82,7 @@ in_order-not m n e f u =
 
 pub marks_needed : MarksNeeded
 unfolding shifted_over shifted after_delete after_insert after_delete_char after_delete_lines after_delete_block start_cols after_join after_insert_block after_delete_block_chunks gap_len onto lines unlines row_count last_row row_len row_start clamp offset end_of flatten inserted chars_deleted line_from line_to lines_deleted replaced gap join_row join_cols join_flags put put_all pads_of pieces cut_all chunks_of joined block_inserted chunks_deleted range_deleted edited_by
-marks_needed = record { meet_first = refl; meet_second = refl; left-text = refl; left = refl; left_out = refl; past-order = refl; past_first = refl; past-second = refl; passed = refl; not-landed = λ l. in_order-not l.p' l.q' l.lands_p l.lands_q l.order; not-landed_run = λ l. in_order-not l.p' l.q' l.lands_p l.lands_q l.order }
+marks_needed = record { meet_first = refl; meet_second = refl; left_text = refl; left = refl; left_out = refl; past_order = refl; past_first = refl; past_second = refl; passed = refl; not_landed = λ l. in_order-not l.p' l.q' l.lands_p l.lands_q l.order; not_landed_run = λ l. in_order-not l.p' l.q' l.lands_p l.lands_q l.order }
 
 -- ---- the calls: each edit's answer is computed at the state that the edits before it leave
 

@@ -100,8 +100,8 @@ marks_meet t w h p q mp mq u =
       lands_p = lands g p;
       lands_q = lands g q;
       order = g.carries.order p q mp u;
-      kept-p = g.carries.marks p mp;
-      kept-q = g.carries.marks q mq;
+      kept_p = g.carries.marks p mp;
+      kept_q = g.carries.marks q mq;
     }
   where
     lands : (g : Goes (λ (x : ℕ). x) spaces (λ (x : ℕ). Unit {0}) t w.payload w.first w.second w.edit) (p : Position) → shifted t w.edit w.payload w.first p ≡ to (g.by p)
@@ -114,7 +114,7 @@ unfolding KeepsRun shifted_over
 run-meets t [] h p q mp mq u = record { p' = p; q' = q; lands_p = refl; lands_q = refl; order = u }
 run-meets t (w ∷ ws) h p q mp mq u =
     let l = marks_meet t w h.0 p q mp mq u in
-    let r = run-meets (edited_text w t) ws h.1 l.p' l.q' l.kept-p l.kept-q l.order in
+    let r = run-meets (edited_text w t) ws h.1 l.p' l.q' l.kept_p l.kept_q l.order in
     record {
       p' = r.p';
       q' = r.q';

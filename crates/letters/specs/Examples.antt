@@ -103,13 +103,13 @@ pub record Needed : Type 0 where
   -- "whose ends are in order": "/a", (1,0)-(0,0), cut and replaced; "a/b/c", rows 1 to 0
   pub chars_back : Strays (10 ∷ 97 ∷ []) (plain (DeleteRange (at 1 0) (at 0 0) Char) []) (at 1 0) (at 0 0) (to (at 1 0))
   pub replace_back : Strays (10 ∷ 97 ∷ []) (plain (Replace (at 1 0) (at 0 0)) []) (at 1 0) (at 0 0) (to (at 1 0))
-  pub lines-back : Strays (97 ∷ 10 ∷ 98 ∷ 10 ∷ 99 ∷ []) (plain (DeleteRange (at 1 0) (at 0 0) Lines) []) (at 2 0) (at 0 0) (to (at 1 0))
+  pub lines_back : Strays (97 ∷ 10 ∷ 98 ∷ 10 ∷ 99 ∷ []) (plain (DeleteRange (at 1 0) (at 0 0) Lines) []) (at 2 0) (at 0 0) (to (at 1 0))
   -- "every position it names is in the text": "/a", a start past its row; "ab", an end past the last row; "a", a place there
   pub chars_start : Strays (10 ∷ 97 ∷ []) (plain (DeleteRange (at 0 99) (at 1 0) Char) []) (at 1 0) (at 0 0) (to (at 0 99))
   pub chars_end : Strays (97 ∷ 98 ∷ []) (plain (DeleteRange (at 0 0) (at 9 0) Char) []) (at 0 1) (at 0 1) (to (at 0 0))
   pub replace_start : Strays (10 ∷ 97 ∷ []) (plain (Replace (at 0 99) (at 1 0)) []) (at 1 0) (at 0 0) (to (at 0 99))
   pub replace_end : Strays (97 ∷ 98 ∷ []) (plain (Replace (at 0 0) (at 9 0)) []) (at 0 1) (at 0 1) (to (at 0 0))
-  pub insert-past : Strays (97 ∷ []) (plain (InsertStr (at 9 0)) (88 ∷ [])) (at 0 0) (at 0 1) (to (at 0 0))
+  pub insert_past : Strays (97 ∷ []) (plain (InsertStr (at 9 0)) (88 ∷ [])) (at 0 0) (at 0 1) (to (at 0 0))
   pub char_past : Strays (97 ∷ []) (plain (InsertChar (at 9 0)) (88 ∷ [])) (at 0 0) (at 0 1) (to (at 0 0))
   -- "accepted": "a", a chunk that is an LF; a chunk's length without a character
   pub chunk_break : Strays (97 ∷ []) (whole (InsertBlock (at 0 0)) (10 ∷ []) (1 ∷ []) []) (at 0 0) (at 1 0) (to (at 0 1))
@@ -123,13 +123,13 @@ pub record MarksNeeded : Type 0 where
   pub meet_first : shifted_over (97 ∷ 98 ∷ []) (plain (DeleteRange (at 0 0) (at 0 2) Char) [] ∷ []) (to (at 0 0)) ≡ to (at 0 0)
   pub meet_second : shifted_over (97 ∷ 98 ∷ []) (plain (DeleteRange (at 0 0) (at 0 2) Char) [] ∷ []) (to (at 0 2)) ≡ to (at 0 0)
   -- one is left behind the text: "/", row 1 deleted, and (1,0) is not in what is left
-  pub left-text : edited_text (plain (DeleteRange (at 1 0) (at 1 0) Lines) []) (10 ∷ []) ≡ []
+  pub left_text : edited_text (plain (DeleteRange (at 1 0) (at 1 0) Lines) []) (10 ∷ []) ≡ []
   pub left : shifted (10 ∷ []) (DeleteRange (at 1 0) (at 1 0) Lines) [] [] (at 1 0) ≡ to (at 1 0)
   pub left_out : clamp is_lf [] (at 1 0) ≡ at 0 0
   -- "in the text": past the end of a row that another follows, one would be passed. "a/b" joined: (0,9) and (1,0)
-  pub past-order : upto (at 0 9) (at 1 0) ≡ true
+  pub past_order : upto (at 0 9) (at 1 0) ≡ true
   pub past_first : shifted (97 ∷ 10 ∷ 98 ∷ []) (JoinLines (row_at 0) 1 false) [] [] (at 0 9) ≡ to (at 0 9)
-  pub past-second : shifted (97 ∷ 10 ∷ 98 ∷ []) (JoinLines (row_at 0) 1 false) [] [] (at 1 0) ≡ to (at 0 1)
+  pub past_second : shifted (97 ∷ 10 ∷ 98 ∷ []) (JoinLines (row_at 0) 1 false) [] [] (at 1 0) ≡ to (at 0 1)
   pub passed : upto (at 0 9) (at 0 1) ≡ false
-  pub not-landed : Landed (97 ∷ 10 ∷ 98 ∷ []) (plain (JoinLines (row_at 0) 1 false) []) (at 0 9) (at 1 0) → ⊥
-  pub not-landed_run : LandedRun (97 ∷ 10 ∷ 98 ∷ []) (plain (JoinLines (row_at 0) 1 false) [] ∷ []) (at 0 9) (at 1 0) → ⊥
+  pub not_landed : Landed (97 ∷ 10 ∷ 98 ∷ []) (plain (JoinLines (row_at 0) 1 false) []) (at 0 9) (at 1 0) → ⊥
+  pub not_landed_run : LandedRun (97 ∷ 10 ∷ 98 ∷ []) (plain (JoinLines (row_at 0) 1 false) [] ∷ []) (at 0 9) (at 1 0) → ⊥

@@ -39,8 +39,8 @@ pub record Landed (t : List ℕ) (w : Whole ℕ) (p q : Position) : Type 0 where
   pub lands_p : shifted t w.edit w.payload w.first p ≡ to p'
   pub lands_q : shifted t w.edit w.payload w.first q ≡ to q'
   pub order : upto p' q' ≡ true
-  pub kept-p : Markable (edited_text w t) p'
-  pub kept-q : Markable (edited_text w t) q'
+  pub kept_p : Markable (edited_text w t) p'
+  pub kept_q : Markable (edited_text w t) q'
 
 -- "Two marks in the text may meet but never pass each other."
 abbrev pub MarksMeet : Type 0

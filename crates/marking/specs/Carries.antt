@@ -1,4 +1,4 @@
--- A mark over an edit that the call accepts, as the worker finds it: `carriedOver` of shift has no refusals left to look for.
+-- A mark over an edit that the call accepts, as the worker finds it: `carried_over` of shift has no refusals left to look for.
 use Rattle.std.specs.Prelude.{List, ℕ}
 use Rattle.edit.specs.declared.Edit.{Edit}
 use Rattle.select.specs.declared.Sel.{Sel}

@@ -17,7 +17,7 @@ pub record RuledOut : Type 0 where
   -- a mark's anchor looked up twice, and its head not
   pub head : placed fresh (0x61 ∷ []) (mark (sel (at 0 0) (at 0 2))) ≡ malformed
   -- a mark kept after an edit, while there are fewer than 64
-  pub after-edit : placed (record { sound = true; marks = 0; edited = true }) (0x61 ∷ []) (mark (sel (at 0 0) (at 0 1))) ≡ malformed
+  pub after_edit : placed (record { sound = true; marks = 0; edited = true }) (0x61 ∷ []) (mark (sel (at 0 0) (at 0 1))) ≡ malformed
   -- an edit after the first not in its place
   pub second_edit : placed (record { sound = true; marks = 0; edited = true }) [] (plain (InsertStr (at 0 0))) ≡ plain (InsertStr (at 0 0))
   -- a malformed line that counts as a sound one

@@ -26,7 +26,7 @@ of_kind k = record { kind = k; start = at 1 2; end = at 3 4; count = 5 }
 pub record RuledOut : Type 0 where
   -- a Line delete meant, or told, as a Char delete
   pub lines : meant (of_kind 3) ≡ some (DeleteRange (at 1 2) (at 3 4) Lines)
-  pub lines-told : (numbers_of (DeleteRange (at 1 2) (at 3 4) Lines)).kind ≡ 3
+  pub lines_told : (numbers_of (DeleteRange (at 1 2) (at 3 4) Lines)).kind ≡ 3
   -- a join with spaces meant as one without, or at the row of the other end
   pub spaced : meant (of_kind 6) ≡ some (JoinLines (row_at 1) 5 true)
   -- as much told of the payload as of the first list
@@ -41,10 +41,10 @@ pub record RuledOut : Type 0 where
   pub span : told_span (between 1 3) ≡ record { refusal = 0; covered = true; «open» = false; lo = 1; hi = 3 }
   -- the rows of a selection told with the last first; the column of a Line selection's head kept
   pub rows : told_bounds (bounds 2 5) ≡ record { refusal = 0; top = 2; bottom = 5 }
-  pub line-ends : ends_of (as_selection.Line (row_at 3) (row_at 1)) ≡ sel (at 3 0) (at 1 0)
+  pub line_ends : ends_of (as_selection.Line (row_at 3) (row_at 1)) ≡ sel (at 3 0) (at 1 0)
   -- a refused call answered with a view of nothing; the old view told where a call is answered
   pub view_kept : told_view (record { used = 1; cursor = at 0 1; changes = 2 }) (refused 1 0) ≡ record { refusal = 1; view = record { used = 1; cursor = at 0 1; changes = 2 } }
   pub view_told : (told_view (record { used = 1; cursor = at 0 1; changes = 2 }) (done (record { used = 1; cursor = at 0 0; changes = 2 }))).view ≡ record { used = 1; cursor = at 0 0; changes = 2 }
   -- a line's lists counted in each other's place; the offset of a bad sequence not told
-  pub line-lists : (told_line (JoinLines (row_at 1) 5 true) 1 2 3).first ≡ 2
-  pub line-offset : (no_line 5 10).offset ≡ 10
+  pub line_lists : (told_line (JoinLines (row_at 1) 5 true) 1 2 3).first ≡ 2
+  pub line_offset : (no_line 5 10).offset ≡ 10

@@ -30,7 +30,7 @@ pub first_from : (s : List ℕ) (i : ℕ) → get_or (drop i s) 0 0 ≡ get_or s
 first_from s i = get_or-drop i s 0 0 ∙ rw add-zero
 
 -- the part from a on of a front of u elements
-pub drop-take : (a u : ℕ) (s : List ℕ) → drop a (take u s) ≡ take (u - a) (drop a s)
+pub drop-take : {A : Type 0} (a u : ℕ) (s : List A) → drop a (take u s) ≡ take (u - a) (drop a s)
 drop-take zero u s = rw sub-zero
 drop-take (suc a) zero s = let e : 0 - suc a ≡ 0 = omega arith in rw e
 drop-take (suc a) (suc u) [] = rw take-nil
@@ -47,10 +47,10 @@ tail_back b y a =
     rw (drop_of_length-le (drop a b) l, append-nil)
 
 -- a front goes no further than the list
-pub take_min : (c : ℕ) (z : List ℕ) → take c z ≡ take (min c (length z)) z
+pub take_min : {A : Type 0} (c : ℕ) (z : List A) → take c z ≡ take (min c (length z)) z
 take_min c z = elim (dec_le c (length z)) [ yes h ↦ rw (min-eq_left h) | no h ↦ (let k : length z ≤ c = omega arith in rw (min-eq_right k, take_all c z k, take-length)) ]
 
-pub take-both : (c m : ℕ) (z : List ℕ) → take c (take m z) ≡ take (min c m) z
+pub take-both : {A : Type 0} (c m : ℕ) (z : List A) → take c (take m z) ≡ take (min c m) z
 take-both c m z = elim (dec_le c m) [ yes h ↦ rw (min-eq_left h) (take-take c m z h) | no h ↦ (let k : m ≤ c = omega arith in rw (min-eq_right k) (take_all c (take m z) (omega (arith, length-take m z)))) ]
 
 -- one more at the end of what a slice holds in front

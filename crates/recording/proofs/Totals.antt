@@ -8,8 +8,7 @@ use lib.ListN.{length, take, drop, replicate, length-append, length-replicate, l
 use lib.Seq.{drop-drop}
 use Rattle.text.specs.Rows.{last_row}
 use Rattle.text.specs.Text.{is_lf}
-use Rattle.text.proofs.Laws.{last_le}
-use Rattle.steps.proofs.Lasts.{last_append, last_same, last_others}
+use Rattle.text.proofs.Laws.{last_append, last_le, last_others, last_same}
 use Rattle.steps.specs.Steps.{breaks_gone, breaks_come}
 use Rattle.steps.specs.Numbers.{steps_of, passed_by, laid_by, come_by, cut_by, size_by}
 use Rattle.recording.specs.declared.Five.{Five}

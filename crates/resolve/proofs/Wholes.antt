@@ -6,7 +6,7 @@ use Prim.Native.Nat.{ℕ, suc, ◌+◌, ◌≤◌, ◌<◌, min, max}
 use native.Mathlib.Omega.{arith}
 use lib.ListN.{length, take, drop, drop_of_length-le}
 use lib.Seq.{slice, take-append-add, take-append_seam, drop-append_seam}
-use Rattle.steps.proofs.Parts.{take_min}
+use Rattle.promise.proofs.Lists.{take_min}
 use Rattle.text.specs.declared.Position.{Position}
 use Rattle.text.specs.declared.Row.{Row}
 use Rattle.text.specs.declared.Span.{Span}

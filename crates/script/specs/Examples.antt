@@ -69,6 +69,6 @@ pub record TakenBack : Type 0 where
   pub empty_undoable : all_undoable (script (put_x ∷ [])) ≡ true
   pub empty_stages : texts (script (put_x ∷ [])) ≡ [] ∷ (120 ∷ []) ∷ []
   -- what the hypothesis keeps out: the break comes back behind b
-  pub past-not : all_undoable past ≡ false
-  pub past-stages : texts past ≡ (97 ∷ 10 ∷ 98 ∷ []) ∷ (97 ∷ 98 ∷ []) ∷ []
+  pub past_not : all_undoable past ≡ false
+  pub past_stages : texts past ≡ (97 ∷ 10 ∷ 98 ∷ []) ∷ (97 ∷ 98 ∷ []) ∷ []
   pub past_back : texts (undo past) ≡ (97 ∷ 98 ∷ []) ∷ (97 ∷ 98 ∷ 10 ∷ []) ∷ []

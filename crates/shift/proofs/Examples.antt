@@ -16,15 +16,15 @@ pub examples : Examples
 unfolding scalar onto lines row_count last_row row_len admissible all text_ok sum small_range small_ok few_rows few_ok payload_ok first_of gap_len after_insert after_delete_char after_delete_lines after_delete_block start_cols after_join after_insert_block after_delete_block_chunks after_delete shifted ordered_range ordered_ok position_shifted sel_shifted carried_over
 examples = record {
   run = refl;
-  run-back = refl;
-  join-plain = refl;
-  join-empty = refl;
-  join-below = refl;
+  run_back = refl;
+  join_plain = refl;
+  join_empty = refl;
+  join_below = refl;
   cut_inside = refl;
   cut_end = refl;
   cut_below = refl;
-  line-gone = refl;
-  line-below = refl;
+  line_gone = refl;
+  line_below = refl;
   block_left = refl;
   block_inside = refl;
   block_right = refl;
@@ -34,7 +34,7 @@ examples = record {
   chunk_inside = refl;
   chunk_second = refl;
   split = refl;
-  split-sel = refl;
+  split_sel = refl;
   carried = refl;
   outside = refl;
 }
@@ -50,7 +50,7 @@ first_refusals = record {
   reversed_char = refl;
   reversed_line = refl;
   head_too_big = refl;
-  split-too_big = refl;
+  split_too_big = refl;
 }
 
 pub moves : Moves
@@ -63,5 +63,5 @@ moves = record {
   empty_line = refl;
   empty_unchanged = refl;
   past_row = refl;
-  past-unchanged = refl;
+  past_unchanged = refl;
 }

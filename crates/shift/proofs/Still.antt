@@ -28,11 +28,11 @@ either_way false p q e = e
 
 -- ---- before a block
 
-pub insert-block_above : (p q : Position) (f : List ℕ) → p.row.0 < q.row.0 → after_insert_block p q f ≡ p
-insert-block_above p q f h = sym (put-outside p q f (rw (lt-ltb p.row.0 q.row.0 h)))
+pub insert_block_above : (p q : Position) (f : List ℕ) → p.row.0 < q.row.0 → after_insert_block p q f ≡ p
+insert_block_above p q f h = sym (put-outside p q f (rw (lt-ltb p.row.0 q.row.0 h)))
 
-pub insert-block_before : (p q : Position) (f : List ℕ) → p.col.0 < q.col.0 → after_insert_block p q f ≡ p
-insert-block_before p q f h = sym (put-outside p q f (rw (lt-ltb p.col.0 q.col.0 h, or-true)))
+pub insert_block_before : (p q : Position) (f : List ℕ) → p.col.0 < q.col.0 → after_insert_block p q f ≡ p
+insert_block_before p q f h = sym (put-outside p q f (rw (lt-ltb p.col.0 q.col.0 h, or-true)))
 
 -- ---- over an edit of nothing
 

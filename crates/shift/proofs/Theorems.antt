@@ -31,7 +31,7 @@ use Rattle.after.specs.After.{after_delete_char}
 use Rattle.shift.specs.Kinds.{after_delete, shifted}
 use Rattle.shift.specs.Theorems.{KeepsBefore, Nothing, FollowsRange, UnchangedStays, SplitDrops, Settled}
 use Rattle.after.proofs.Inserts.{insert-before}
-use Rattle.shift.proofs.Still.{insert-block_above, insert-block_before, insert-nothing, delete_nothing, join-nothing, insert-block_nothing, delete_chunks_nothing}
+use Rattle.shift.proofs.Still.{insert_block_above, insert_block_before, insert-nothing, delete_nothing, join-nothing, insert-block_nothing, delete_chunks_nothing}
 use Rattle.shift.proofs.Unchanged.{insert-unchanged, chars_unchanged, lines-unchanged}
 use Rattle.shift.proofs.UnchangedRows.{join-unchanged, insert-block_unchanged, delete_chunks_unchanged, block_unchanged}
 
@@ -41,20 +41,20 @@ stays e = ap (λ (x : Position). to x) e
 pub keeps_before : KeepsBefore
 unfolding shifted
 keeps_before t q p x f = record {
-  insert-char = λ e. stays (sym (insert-before p q x e));
-  insert-str = λ e. stays (sym (insert-before p q x e));
-  insert-block_above = λ h. stays (insert-block_above p q f h);
-  insert-block_before = λ h. stays (insert-block_before p q f h);
+  insert_char = λ e. stays (sym (insert-before p q x e));
+  insert_str = λ e. stays (sym (insert-before p q x e));
+  insert_block_above = λ h. stays (insert_block_above p q f h);
+  insert_block_before = λ h. stays (insert_block_before p q f h);
 }
 
 pub nothing : Nothing
 unfolding shifted after_delete
 nothing t p x f = record {
-  insert-str = λ q. stays (insert-nothing p q);
+  insert_str = λ q. stays (insert-nothing p q);
   delete_char = λ q. stays (delete_nothing p q);
   replace = λ q. stays (insert-nothing (after_delete_char p q q) q ∙ delete_nothing p q);
   join = λ r n b h. stays (join-nothing p r.0 n b t h);
-  insert-block = λ q n. stays (insert-block_nothing p q n);
+  insert_block = λ q n. stays (insert-block_nothing p q n);
   delete_chunks = λ q n. stays (delete_chunks_nothing p q n);
 }
 

@@ -28,18 +28,18 @@ pub record Examples : Type 0 where
   -- document 01's run: over "X/" at (0,1), the mark (1,1)-(1,2)
   pub run : sel_shifted abcd 5 (InsertStr (at 0 1)) (88 ∷ 10 ∷ []) [] [] (sel (at 1 1) (at 1 2)) ≡ done (to (sel (at 2 1) (at 2 2)))
   -- an end at the insertion moves with the text behind it, and the ends keep their direction
-  pub run-back : sel_shifted abcd 5 (InsertStr (at 0 1)) (88 ∷ 10 ∷ []) [] [] (sel (at 1 2) (at 0 1)) ≡ done (to (sel (at 2 2) (at 1 0)))
+  pub run_back : sel_shifted abcd 5 (InsertStr (at 0 1)) (88 ∷ 10 ∷ []) [] [] (sel (at 1 2) (at 0 1)) ≡ done (to (sel (at 2 2) (at 1 0)))
   -- a join without a space, two joins of which one has an empty side, and a row below them
-  pub join-plain : Lands abcd (JoinLines (row_at 0) 1 false) [] [] (at 1 2) (at 0 4)
-  pub join-empty : Lands (97 ∷ 10 ∷ 10 ∷ 98 ∷ []) (JoinLines (row_at 0) 2 true) [] [] (at 2 1) (at 0 3)
-  pub join-below : Lands (97 ∷ 10 ∷ 98 ∷ 10 ∷ 99 ∷ []) (JoinLines (row_at 0) 1 true) [] [] (at 2 1) (at 1 1)
+  pub join_plain : Lands abcd (JoinLines (row_at 0) 1 false) [] [] (at 1 2) (at 0 4)
+  pub join_empty : Lands (97 ∷ 10 ∷ 10 ∷ 98 ∷ []) (JoinLines (row_at 0) 2 true) [] [] (at 2 1) (at 0 3)
+  pub join_below : Lands (97 ∷ 10 ∷ 98 ∷ 10 ∷ 99 ∷ []) (JoinLines (row_at 0) 1 true) [] [] (at 2 1) (at 1 1)
   -- inside a cut, behind its end, and below it
   pub cut_inside : Lands abcd (DeleteRange (at 0 1) (at 1 1) Char) [] [] (at 1 0) (at 0 1)
   pub cut_end : Lands abcd (DeleteRange (at 0 1) (at 1 1) Char) [] [] (at 1 2) (at 0 2)
   pub cut_below : Lands abcd (DeleteRange (at 0 1) (at 1 1) Char) [] [] (at 4 7) (at 3 7)
   -- rows that go, and a row below them
-  pub line-gone : Lands abcd (DeleteRange (at 0 9) (at 0 2) Lines) [] [] (at 0 1) (at 0 0)
-  pub line-below : Lands abcd (DeleteRange (at 0 9) (at 0 2) Lines) [] [] (at 1 1) (at 0 1)
+  pub line_gone : Lands abcd (DeleteRange (at 0 9) (at 0 2) Lines) [] [] (at 0 1) (at 0 0)
+  pub line_below : Lands abcd (DeleteRange (at 0 9) (at 0 2) Lines) [] [] (at 1 1) (at 0 1)
   -- left of, inside and right of a block, whose ends may be in any order
   pub block_left : Lands abcd (DeleteRange (at 1 2) (at 0 1) Block) [] [] (at 1 0) (at 1 0)
   pub block_inside : Lands abcd (DeleteRange (at 1 1) (at 0 0) Block) [] [] (at 1 1) (at 1 0)
@@ -53,7 +53,7 @@ pub record Examples : Type 0 where
   pub chunk_second : Lands abcd (DeleteBlockChunks (at 0 0)) [] (1 ∷ 2 ∷ []) (at 1 2) (at 1 0)
   -- "SplitLines answers Dropped, which is no refusal."
   pub split : shift_of abcd (SplitLines (row_at 0)) [] [] (at 0 0) ≡ done dropped
-  pub split-sel : sel_shifted abcd 5 (SplitLines (row_at 0)) [] [] [] (sel (at 0 0) (at 0 1)) ≡ done dropped
+  pub split_sel : sel_shifted abcd 5 (SplitLines (row_at 0)) [] [] [] (sel (at 0 0) (at 0 1)) ≡ done dropped
   -- one that is carried along is dropped where an end is past 1,000,000
   pub carried : carried_over abcd (InsertStr (at 0 0)) [] [] (sel (at 0 0) (at 0 1_000_001)) ≡ dropped
   -- raw positions may lie outside of the text and pass 1,000,000
@@ -70,7 +70,7 @@ pub record FirstRefusals : Type 0 where
   pub reversed_line : shift_of [] (DeleteRange (at 1 0) (at 0 0) Lines) [] [] (at 1 0) ≡ refused 6 0
   -- both ends of a selection are judged together: a head too big is 2 before 257 columns are 3, and before a split drops
   pub head_too_big : sel_shifted [] 0 (SplitLines (row_at 0)) [] (replicate 257 0) [] (sel (at 0 0) (at 1_000_001 0)) ≡ refused 2 0
-  pub split-too_big : sel_shifted [] 0 (SplitLines (row_at 0)) [] [] [] (sel (at 0 1_000_001) (at 0 0)) ≡ refused 2 0
+  pub split_too_big : sel_shifted [] 0 (SplitLines (row_at 0)) [] [] [] (sel (at 0 1_000_001) (at 0 0)) ≡ refused 2 0
 
 -- Edits that change nothing and still move a position, as the original's do. In the text: the cut of "abc" from (0,2) to (9,0),
 -- which clamping puts out of order; a letter replaced by itself. Outside of it: the empty text's line deleted; a block past the
@@ -83,4 +83,4 @@ pub record Moves : Type 0 where
   pub empty_line : Lands [] (DeleteRange (at 0 0) (at 0 0) Lines) [] [] (at 1 0) (at 0 0)
   pub empty_unchanged : Unchanged [] (DeleteRange (at 0 0) (at 0 0) Lines) [] [] []
   pub past_row : Lands (97 ∷ []) (DeleteRange (at 0 5) (at 0 5) Block) [] [] (at 0 9) (at 0 8)
-  pub past-unchanged : Unchanged (97 ∷ []) (DeleteRange (at 0 5) (at 0 5) Block) [] [] []
+  pub past_unchanged : Unchanged (97 ∷ []) (DeleteRange (at 0 5) (at 0 5) Block) [] [] []

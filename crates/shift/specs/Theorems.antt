@@ -21,21 +21,21 @@ Stays t e x f p = shifted t e x f p ≡ to p
 
 -- An insertion never moves a position before it; a block one none in a row above it or in a column before it.
 pub record BeforeStays (t : List ℕ) (q p : Position) (x f : List ℕ) : Type 0 where
-  pub insert-char : upto q p ≡ false → Stays t (InsertChar q) x f p
-  pub insert-str : upto q p ≡ false → Stays t (InsertStr q) x f p
-  pub insert-block_above : p.row.0 < q.row.0 → Stays t (InsertBlock q) x f p
-  pub insert-block_before : p.col.0 < q.col.0 → Stays t (InsertBlock q) x f p
+  pub insert_char : upto q p ≡ false → Stays t (InsertChar q) x f p
+  pub insert_str : upto q p ≡ false → Stays t (InsertStr q) x f p
+  pub insert_block_above : p.row.0 < q.row.0 → Stays t (InsertBlock q) x f p
+  pub insert_block_before : p.col.0 < q.col.0 → Stays t (InsertBlock q) x f p
 
 abbrev pub KeepsBefore : Type 0
 KeepsBefore = (t : List ℕ) (q p : Position) (x f : List ℕ) → BeforeStays t q p x f
 
 -- Nothing inserted, nothing cut between equal ends, no row to join, chunks and widths of 0: these move no position, be it in the text or not.
 pub record NothingMoves (t : List ℕ) (p : Position) (x f : List ℕ) : Type 0 where
-  pub insert-str : (q : Position) → Stays t (InsertStr q) [] f p
+  pub insert_str : (q : Position) → Stays t (InsertStr q) [] f p
   pub delete_char : (q : Position) → Stays t (DeleteRange q q Char) x f p
   pub replace : (q : Position) → Stays t (Replace q q) [] f p
   pub join : (r : Row) (n : ℕ) (b : Bool) → last_row is_lf t ≤ r.0 → Stays t (JoinLines r n b) x f p
-  pub insert-block : (q : Position) (n : ℕ) → Stays t (InsertBlock q) [] (replicate n 0) p
+  pub insert_block : (q : Position) (n : ℕ) → Stays t (InsertBlock q) [] (replicate n 0) p
   pub delete_chunks : (q : Position) (n : ℕ) → Stays t (DeleteBlockChunks q) x (replicate n 0) p
 
 abbrev pub Nothing : Type 0

@@ -7,7 +7,7 @@ use native.Mathlib.Omega.{arith}
 use lib.ListN.{take, drop, take-append-drop}
 use lib.Seq.{drop-drop}
 use Rattle.text.specs.Rows.{last_row}
-use Rattle.steps.proofs.Lasts.{last_append}
+use Rattle.text.proofs.Laws.{last_append}
 use Rattle.steps.specs.Steps.{Step, brought, woven, breaks_gone, breaks_come}
 
 module _ {A : Type 0} (lf : A → Bool) where

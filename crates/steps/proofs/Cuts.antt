@@ -17,7 +17,7 @@ use Rattle.edit.specs.declared.Edit.TheVariants.{InsertChar, InsertStr, DeleteRa
 use Rattle.edit.specs.Edits.{Made, join_next, pieces, chunks_of, cut_from, cut_to, corner, height, breadth, inserted, chars_deleted, lines_deleted, replaced, joined, split, block_inserted, chunks_deleted, range_deleted, edited_by}
 use Rattle.steps.specs.Steps.{Step, step, ahead, cut_of}
 use Rattle.steps.specs.Kinds.{join_steps, put_steps, cut_steps, behind, split_steps, chunk_steps, range_steps, steps_by}
-use Rattle.steps.proofs.Parts.{drop-take, take_min}
+use Rattle.promise.proofs.Lists.{drop-take, take_min}
 use Rattle.steps.proofs.Laws.{drop_min, rows_whole}
 
 parts : (a k e : ℕ) → a ≤ k → k ≤ e → ((e - a) - (k - a) ≡ e - k) × (a + (k - a) ≡ k) × (a + (e - a) ≡ e)

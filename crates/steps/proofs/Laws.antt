@@ -10,7 +10,7 @@ use lib.ListN.{length, take, drop, get_or, replicate, length-append, length-repl
 use lib.Seq.{drop-cons, take-append-add, drop-append-add, take-append-le, drop-append-le, take-append_seam, drop_at, take_all, take-length}
 use Rattle.text.specs.declared.Position.{Position}
 use Rattle.text.specs.Rows.{Line, line, lines, unlines, row_count, last_row, row_start, offset}
-use Rattle.steps.proofs.Parts.{take_min}
+use Rattle.promise.proofs.Lists.{take_min}
 use Rattle.text.proofs.Laws.{unlines-lines, count_last}
 use Rattle.text.proofs.Broken.{Broken, final, next, unlines-append, lines-broken, broken_right}
 use Rattle.edit.specs.Edits.{Made, put, put_all, pieces, cut_all, gap, join_next, join_row, from_row, cut_from, cut_to, inserted, chars_deleted, joined, block_inserted, chunks_deleted}

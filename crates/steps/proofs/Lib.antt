@@ -1,6 +1,4 @@
 pub mod Stored
-pub mod Lasts
-pub mod Parts
 pub mod Laws
 pub mod Splits
 pub mod Sums

@@ -12,7 +12,7 @@ use Rattle.text.specs.Rows.{Line, line, lines, unlines, last_row}
 use Rattle.edit.specs.Edits.{Made, unspace, split_first, split_row, split}
 use Rattle.steps.specs.Steps.{Step, woven, passed}
 use Rattle.steps.specs.Kinds.{first_at, behind, split_steps, split_at}
-use Rattle.steps.proofs.Parts.{drop-take, take-both}
+use Rattle.promise.proofs.Lists.{drop-take, take-both}
 use Rattle.text.proofs.Broken.{unlines-append}
 use Rattle.steps.proofs.Laws.{from_row_lem, row_cons, back}
 

@@ -4,7 +4,7 @@ use mathlib.Core.Bool.{Bool, true, false, cond}
 use mathlib.Core.List.{List, [], ◌∷◌, ◌++◌}
 use Prim.Native.Nat.{ℕ, zero, suc, ◌≤◌, ◌+◌, ◌-◌, ◌<◌, min}
 use native.Mathlib.Omega.{arith}
-use lib.ListN.{length, take, drop, get_or}
+use lib.ListN.{length, take, drop, get_or, replicate}
 use Rattle.text.specs.Rows.{Line, line, onto, lines, unlines, row_count, row_len, row_start, last_row, clamp, offset, end_of, at, ◌⊕◌}
 use native.Mathlib.Nat.{add-zero, zero-add, add_assoc, sub-zero, suc-sub-suc}
 use borrow.Author.Tests.{ne_eqb}
@@ -390,6 +390,23 @@ module _ {A : Type 0} (lf : A → Bool) where
       go : (b : Bool) → lf x ≡ b → last_row lf t ≤ length t → last_row lf (x ∷ t) ≤ suc (length t)
       go true e h = rw (last_lf x t e) (omega arith)
       go false e h = rw (last_other x t e) (omega arith)
+
+  -- the LFs of two texts, one after the other, and of one element n times
+  pub last_append : (s u : List A) → last_row lf (s ++ u) ≡ last_row lf s + last_row lf u
+  last_append [] u = omega (arith, last_none)
+  last_append (x ∷ s) u = go (lf x) refl (last_append s u)
+    where
+      go : (b : Bool) → lf x ≡ b → last_row lf (s ++ u) ≡ last_row lf s + last_row lf u → last_row lf (x ∷ (s ++ u)) ≡ last_row lf (x ∷ s) + last_row lf u
+      go true e ih = omega (arith, last_lf x (s ++ u) e, last_lf x s e)
+      go false e ih = omega (arith, last_other x (s ++ u) e, last_other x s e)
+
+  pub last_same : (x : A) (n : ℕ) → lf x ≡ true → last_row lf (replicate n x) ≡ n
+  last_same x zero e = last_none
+  last_same x (suc n) e = last_lf x (replicate n x) e ∙ ap suc (last_same x n e)
+
+  pub last_others : (x : A) (n : ℕ) → lf x ≡ false → last_row lf (replicate n x) ≡ 0
+  last_others x zero e = last_none
+  last_others x (suc n) e = last_other x (replicate n x) e ∙ last_others x n e
 
   pub count_last : (t : List A) → row_count lf t ≡ last_row lf t + 1
   unfolding last_row

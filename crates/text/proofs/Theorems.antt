@@ -58,4 +58,4 @@ clamped_back_lem (clamped.At p) = refl
 clamped_back_lem clamped.BadText = refl
 
 pub promises_settle : Settled
-promises_settle = record { clamp-position = settled clamped_back clamped_back_lem }
+promises_settle = record { clamp_position = settled clamped_back clamped_back_lem }

@@ -12,7 +12,7 @@ pub record RuledOut : Type 0 where
   -- a text admitted by its last character
   pub admitted : all_admissible (13 ∷ 97 ∷ []) ≡ false
   -- a used length past the buffer admitted
-  pub past-buffer : text_ok (97 ∷ []) 2 ≡ false
+  pub past_buffer : text_ok (97 ∷ []) 2 ≡ false
   -- a position that does not stand up to itself; the later of two given for the earlier, and the earlier for the later
   pub itself : upto (at 1 2) (at 1 2) ≡ true
   pub first : earlier (at 0 5) (at 1 0) ≡ at 0 5
@@ -35,4 +35,4 @@ pub record RuledOut : Type 0 where
   pub counted : offset is_lf abcd (at 1 2) ≡ 5
   -- a position past its row's end, or past the last row, taken to be in the text
   pub past_row : in_text is_lf abcd (at 0 3) ≡ false
-  pub past-last : in_text is_lf abcd (at 2 0) ≡ false
+  pub past_last : in_text is_lf abcd (at 2 0) ≡ false

@@ -57,4 +57,4 @@ RenewsTwice =
 
 -- The public promise settles its answer. (Those of the other functions are equations for the answer itself.)
 pub record Settled : Type 0 where
-  pub clamp-position : Settles paper_clamped
+  pub clamp_position : Settles paper_clamped

@@ -7,4 +7,4 @@ use Rattle.utf8.specs.Examples.{RuledOut}
 
 pub ruled_out : RuledOut
 unfolding decoded encoded stored all_scalar prepend read_from writing begins number octets scalar taken
-ruled_out = record { two = refl; two_last = refl; three = refl; four = refl; block = refl; full = refl; last = refl; written = refl; written-full = refl }
+ruled_out = record { two = refl; two_last = refl; three = refl; four = refl; block = refl; full = refl; last = refl; written = refl; written_full = refl }

@@ -23,4 +23,4 @@ pub record RuledOut : Type 0 where
   -- the second octet of four with the bits of the third
   pub written : encoded (0x1F600 ∷ []) (replicate 5 9) ≡ outcome (done 4) (0xF0 ∷ 0x9F ∷ 0x98 ∷ 0x80 ∷ 9 ∷ [])
   -- a slice that is just long enough for the octets refused
-  pub written-full : encoded (0x61 ∷ []) (9 ∷ []) ≡ outcome (done 1) (0x61 ∷ [])
+  pub written_full : encoded (0x61 ∷ []) (9 ∷ []) ≡ outcome (done 1) (0x61 ∷ [])

@@ -38,4 +38,4 @@ cursor_back_lem cursor_set.BadText = refl
 
 pub promises_settle : Settled
 promises_settle =
-    record { undoable = λ b v e p f s x y h k. settled undoable_back undoable-back (undoable v e (lent b p f s [] [] [])) x y (h [] [] []) (k [] [] []); set-cursor = settled cursor_back cursor_back_lem; clamp-position = (text.promises_settle).clamp-position }
+    record { undoable = λ b v e p f s x y h k. settled undoable_back undoable-back (undoable v e (lent b p f s [] [] [])) x y (h [] [] []) (k [] [] []); set_cursor = settled cursor_back cursor_back_lem; clamp_position = (text.promises_settle).clamp_position }

@@ -1,5 +1,5 @@
 -- What each call answers, where no other crate has it: undoable's answer is `undoable` in edit/specs/Call.antt, and
--- clamp_position's is `clampedIn` in text/specs/Calls.antt.
+-- clamp_position's is `clamped_in` in text/specs/Calls.antt.
 use Rattle.std.specs.Prelude.{◌≡◌, List, ℕ}
 use Rattle.promise.specs.Paper.{Paper}
 use Rattle.text.specs.declared.Position.{Position}

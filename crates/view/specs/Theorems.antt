@@ -11,5 +11,5 @@ use Rattle.view.specs.Calls.{UndoablePromised}
 -- Each public promise settles its answer.
 pub record Settled : Type 0 where
   pub undoable : (b : List ℕ) (v : View) (e : Edit) (p f s : List ℕ) (x y : CanUndo) → UndoablePromised x b v e p f s → UndoablePromised y b v e p f s → x ≡ y
-  pub set-cursor : Settles paper_cursor_set
-  pub clamp-position : Settles paper_clamped
+  pub set_cursor : Settles paper_cursor_set
+  pub clamp_position : Settles paper_clamped

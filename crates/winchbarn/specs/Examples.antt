@@ -35,7 +35,7 @@ written n = record { refusal = 0; offset = 0; count = n }
 
 pub record RuledOut : Type 0 where
   -- run_script: of no lines, nothing printed
-  pub run-script : told_into (ran_into [] (replicate 4 9)) ≡ counted (written 3) (48 ∷ 49 ∷ 10 ∷ 9 ∷ [])
+  pub run_script : told_into (ran_into [] (replicate 4 9)) ≡ counted (written 3) (48 ∷ 49 ∷ 10 ∷ 9 ∷ [])
   -- apply_edit: "X" at the front of "a", applied to the whole buffer
   pub apply_edit :
       edit_call one (at_front 1) (lent (0x61 ∷ 7 ∷ 7 ∷ []) (0x58 ∷ []) [] [] [] [] [])
@@ -77,11 +77,11 @@ pub record RuledOut : Type 0 where
   -- undoable: a cut at the front refused, or told as no
   pub undoable : undoable_call one (at_front 2) (0x61 ∷ []) [] [] [] ≡ record { refusal = 0; yes = true }
   -- undoable: a kind that is none refused by 4
-  pub undoable-kind : undoable_call one (at_front 11) (0x61 ∷ []) [] [] [] ≡ record { refusal = 10; yes = false }
+  pub undoable_kind : undoable_call one (at_front 11) (0x61 ∷ []) [] [] [] ≡ record { refusal = 10; yes = false }
   -- set_cursor: the cursor left where it was; the counter raised
-  pub set-cursor : told_view one (cursor_set_in (0x61 ∷ 0x61 ∷ []) one (at 9 9)) ≡ record { refusal = 0; view = record { used = 1; cursor = at 0 1; changes = 0 } }
+  pub set_cursor : told_view one (cursor_set_in (0x61 ∷ 0x61 ∷ []) one (at 9 9)) ≡ record { refusal = 0; view = record { used = 1; cursor = at 0 1; changes = 0 } }
   -- clamp_position: a position brought into the whole buffer
-  pub clamp-position : told_clamped (clamped_in (0x61 ∷ 0x61 ∷ []) 1 (at 0 9)) ≡ found_at (at 0 1)
+  pub clamp_position : told_clamped (clamped_in (0x61 ∷ 0x61 ∷ []) 1 (at 0 9)) ≡ found_at (at 0 1)
   -- box_fit: the number of cells taken for the text's length; cells and tab width in each other's place
   pub box_fit : told_fit (fits_in (0x61 ∷ 0x61 ∷ 0x61 ∷ []) 3 2 8) ≡ found_at (at 0 2)
   pub box_tab : told_fit (fits_in (9 ∷ []) 1 2 3) ≡ found_at (at 0 0)
@@ -92,13 +92,13 @@ pub record RuledOut : Type 0 where
   -- merge_overlapping: the numbers counted, not the selections
   pub merge_overlapping : told_merge (merged_in (0 ∷ 5 ∷ 0 ∷ 4 ∷ []) (replicate 5 9)) ≡ counted (written 1) (0 ∷ 5 ∷ 0 ∷ 4 ∷ 9 ∷ [])
   -- sel_caret: a selection from the start to the position; sel_is_caret: yes for every selection in one row
-  pub sel-caret : (sel (at 1 2) (at 1 2)).anchor ≡ at 1 2
-  pub sel-is_caret : is_caret (sel (at 1 2) (at 1 3)) ≡ false
+  pub sel_caret : (sel (at 1 2) (at 1 2)).anchor ≡ at 1 2
+  pub sel_is_caret : is_caret (sel (at 1 2) (at 1 3)) ≡ false
   -- sel_start, sel_end: the anchor, the head
-  pub sel-start : start (sel (at 3 4) (at 1 2)) ≡ at 1 2
-  pub sel-end : end (sel (at 3 4) (at 1 2)) ≡ at 3 4
+  pub sel_start : start (sel (at 3 4) (at 1 2)) ≡ at 1 2
+  pub sel_end : end (sel (at 3 4) (at 1 2)) ≡ at 3 4
   -- sel_overlaps: two that touch overlap
-  pub sel-overlaps : overlaps (sel (at 0 0) (at 0 3)) (sel (at 0 4) (at 0 5)) ≡ false
+  pub sel_overlaps : overlaps (sel (at 0 0) (at 0 3)) (sel (at 0 4) (at 0 5)) ≡ false
   -- selection_head, selection_anchor: a Line's column kept
   pub selection_head : head_call 1 (sel (at 3 4) (at 1 2)) ≡ found_at (at 1 0)
   pub selection_anchor : anchor_call 1 (sel (at 3 4) (at 1 2)) ≡ found_at (at 3 0)
