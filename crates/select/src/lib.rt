@@ -8,7 +8,7 @@ use text::{Col, Position, Row};
 
 // Two ends, both covered: the one that stays put while a motion runs, and the one that it moves.
 #[repr(C)]
-#[derive(Clone, Copy)]
+#[derive(Clone, Copy, Debug, PartialEq, Eq)]
 pub struct Sel {
     pub anchor: Position,
     pub head: Position,

@@ -3,7 +3,7 @@
 #![tactic(auto)]
 
 // A place in a slice of bytes.
-#[derive(Clone, Copy)]
+#[derive(Clone, Copy, Debug, PartialEq, Eq, PartialOrd, Ord)]
 pub struct ByteOffset(pub usize);
 
 // How many scalars a slice of bytes holds.
