@@ -8,7 +8,7 @@ use framed::apply_frame;
 use lines::{is_passed_over, part_at};
 use reader::{FrameRead, read};
 use text::{Col, Position, Row};
-use writer::{Written, write_edit, write_text};
+use writer::{write_edit, write_text};
 
 const STDIN_FILENO: i32 = 0;
 
@@ -25,8 +25,8 @@ fn print_number(name: &[u8], number: u64) {
     io::print_decimal(STDOUT_FILENO, number);
 }
 
-fn print_line(written: Written, line: &[u8]) {
-    if let Written::Digits(count) = written {
+fn print_line(written: Result<usize, Refusal>, line: &[u8]) {
+    if let Ok(count) = written {
         if count <= line.len() {
             io::write_all(STDOUT_FILENO, &line[0..count]);
         }
@@ -83,11 +83,11 @@ fn replay(edit: &[u8], text: &mut [u32], used: usize, line: &mut [u8]) {
     let mut second = [0u32; LIST_ROOM];
     let answer = apply_frame(text, view, edit, &mut payload, &mut first, &mut second);
     match answer {
-        Answer::Refused(why) => {
+        Err(why) => {
             print_number(b"refused ", why.number() as u64);
             io::write_all(STDOUT_FILENO, b"\n");
         }
-        Answer::Done(done) => {
+        Ok(done) => {
             let after = done.view;
             print_view(after);
             print_inverse(done, &payload, &first, &second, line);

@@ -11,7 +11,7 @@ ghost use Rattle.std.specs.Prelude.{◌≤◌, length};
 
 use crate::words::put_words;
 use lines::{is_passed_over, part_at};
-use script::{Ran, run_script};
+use script::run_script;
 
 const STDIN_FILENO: i32 = 0;
 
@@ -46,13 +46,13 @@ fn prints(script: &[u8], output: &[u8]) -> bool {
     let mut out = [0u8; ROOM];
     let ran = run_script(script, &mut out);
     match ran {
-        Ran::Bytes(count) => {
+        Ok(count) => {
             if ROOM < count {
                 return false;
             }
             is_same(&out[0..count], output)
         }
-        Ran::NoRoom => false,
+        Err(_) => false,
     }
 }
 

@@ -4,7 +4,6 @@ ghost use Rattle.std.specs.Prelude.{◌<◌};
 use crate::trial::{ITEMS, ROOM};
 use edit::{Applied, Edit, MotionKind, Refusal, View};
 use text::Position;
-use view::CursorSet;
 
 const STDOUT_FILENO: i32 = 1;
 
@@ -73,13 +72,13 @@ pub(crate) fn print_refused(refusal: Refusal, same: bool) {
     }
 }
 
-pub(crate) fn print_cursor(set: CursorSet) {
+pub(crate) fn print_cursor(set: Result<View, BadText>) {
     match set {
-        CursorSet::At(view) => {
+        Ok(view) => {
             io::write_all(STDOUT_FILENO, b"set");
             print_view(view);
         }
-        CursorSet::BadText => {
+        Err(BadText) => {
             io::write_all(STDOUT_FILENO, b"refused 1");
         }
     }

@@ -160,10 +160,10 @@ fn call(n: [u32; NUMBERS], payload: &[u32], first: &[u32], second: &[u32]) {
     let answer = stood.answer;
     let view = stood.view;
     match answer {
-        Answer::Refused(refusal) => {
+        Err(refusal) => {
             print_refused(refusal, (before == after) & same_view(given, view))
         }
-        Answer::Done(applied) => print_done(
+        Ok(applied) => print_done(
             view,
             applied,
             &text,

@@ -3,9 +3,9 @@ ghost use Rattle.std.specs.Prelude.{◌≤◌, length};
 
 use edit::{Edit, Refusal, View};
 use lines::size;
-use merge::{Merged, merge_overlapping};
+use merge::merge_overlapping;
 use select::{RowSpan, Sel, Selection};
-use shift::{SelShifted, Shifted, shift_position, shift_sel};
+use shift::{shift_position, shift_sel};
 use text::{Position, Row};
 use trials::{edit_of, position};
 
@@ -36,31 +36,31 @@ fn print_malformed() {
     io::write_all(STDOUT_FILENO, b"malformed");
 }
 
-fn print_shifted(answer: Shifted) {
+fn print_shifted(answer: Result<Option<Position>, Refusal>) {
     match answer {
-        Shifted::At(pos) => {
+        Ok(Some(pos)) => {
             io::write_all(STDOUT_FILENO, b"to");
             print_position(pos);
         }
-        Shifted::Dropped => {
+        Ok(None) => {
             io::write_all(STDOUT_FILENO, b"dropped");
         }
-        Shifted::Refused(why) => print_refused(why),
+        Err(why) => print_refused(why),
     }
 }
 
-fn print_sel_shifted(answer: SelShifted) {
+fn print_sel_shifted(answer: Result<Option<Sel>, Refusal>) {
     match answer {
-        SelShifted::At(sel) => {
+        Ok(Some(sel)) => {
             let anchor = sel.anchor;
             let head = sel.head;
             print_position(anchor);
             print_position(head);
         }
-        SelShifted::Dropped => {
+        Ok(None) => {
             io::write_all(STDOUT_FILENO, b" dropped");
         }
-        SelShifted::Refused(why) => {
+        Err(why) => {
             io::write_all(STDOUT_FILENO, b" ");
             print_refused(why);
         }
@@ -171,7 +171,7 @@ fn replay_merge(sels: &[u32]) {
     let mut out = [0u32; MERGED];
     let answer = merge_overlapping(sels, &mut out);
     match answer {
-        Merged::Count(count) => {
+        Ok(count) => {
             io::write_all(STDOUT_FILENO, b"merged");
             print_number(count as u64);
             if count <= MERGED / 4 {
@@ -179,7 +179,7 @@ fn replay_merge(sels: &[u32]) {
                 print_numbers(&out[0..end]);
             }
         }
-        Merged::Refused(why) => print_refused(why),
+        Err(why) => print_refused(why),
     }
 }
 

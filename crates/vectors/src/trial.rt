@@ -1,5 +1,5 @@
 // One call of `decoding` or `encoding` on an array full of one value, held to what it must answer and write.
-use utf8::{Decoded, Encoded};
+use utf8::{DecodeError, EncodeError};
 
 pub(crate) const ROOM: usize = 64;
 
@@ -35,19 +35,19 @@ impl Said {
     }
 }
 
-fn said_of_decoded(answer: Decoded) -> Said {
+fn said_of_decoded(answer: Result<usize, DecodeError>) -> Said {
     match answer {
-        Decoded::Scalars(count) => Said::done(count),
-        Decoded::BadUtf8(at) => Said::refused(5, at.0),
-        Decoded::NoRoom => Said::refused(8, 0),
+        Ok(count) => Said::done(count),
+        Err(DecodeError::BadUtf8(at)) => Said::refused(5, at.0),
+        Err(DecodeError::NoRoom) => Said::refused(8, 0),
     }
 }
 
-fn said_of_encoded(answer: Encoded) -> Said {
+fn said_of_encoded(answer: Result<usize, EncodeError>) -> Said {
     match answer {
-        Encoded::Octets(count) => Said::done(count),
-        Encoded::BadText => Said::refused(1, 0),
-        Encoded::NoRoom => Said::refused(8, 0),
+        Ok(count) => Said::done(count),
+        Err(EncodeError::BadText) => Said::refused(1, 0),
+        Err(EncodeError::NoRoom) => Said::refused(8, 0),
     }
 }
 

@@ -1,6 +1,6 @@
 ghost use Rattle.std.specs.Prelude.{◌≤◌};
 
-use fit::{BoxFit, box_fit};
+use fit::box_fit;
 
 // How many lines or code points there are, and how many wide code points in them.
 #[derive(Clone, Copy)]
@@ -16,8 +16,8 @@ fn ask(value: u32) -> u64
     let text = [value];
     let answer = box_fit(&text, 1, 1, 1);
     match answer {
-        BoxFit::Leaves(_) => 1,
-        BoxFit::AllFit | BoxFit::BadText | BoxFit::TooBig => 0,
+        Ok(Some(_)) => 1,
+        Ok(None) | Err(_) => 0,
     }
 }
 
