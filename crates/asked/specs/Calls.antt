@@ -11,7 +11,6 @@ use Rattle.frame.specs.Forms as forms
 use Rattle.frame.specs.Reads.{contents, edit_of}
 use Rattle.reader.specs.Calls.{Read, text, mark, edit, Filled, filled, read_into, chars_into}
 use Rattle.asked.specs.declared.EditRead.{EditRead}
-use Rattle.asked.specs.declared.EditRead.TheVariants as as_edit
 use Rattle.std.specs.Prelude.{Result, Ok, Err}
 use Rattle.edit.specs.declared.Refusal.{Refusal}
 use Rattle.hexline.specs.declared.BadFrame.{BadFrame}
@@ -20,9 +19,9 @@ abbrev pub paper_mark : Result Sel BadFrame → Paper Sel
 paper_mark (Ok m) = done m
 paper_mark (Err e) = refused 10 0
 
-abbrev pub paper_edit : EditRead → Paper Read
-paper_edit (as_edit.Edit e x f s) = done (edit e x f s)
-paper_edit (as_edit.Refused r) = refused (number_of r) (offset_of r)
+abbrev pub paper_edit : Result EditRead Refusal → Paper Read
+paper_edit (Ok r) = done (edit r.edit r.payload r.first r.second)
+paper_edit (Err r) = refused (number_of r) (offset_of r)
 
 -- a text's characters to the slice: 10, 5, 8
 unfoldable pub text_into : forms.Form → List ℕ → Outcome

@@ -13,4 +13,4 @@ use Rattle.edit.specs.Call.{paper}
 pub record Settled : Type 0 where
   pub read_text_line : Settles {A = Result ℕ Refusal × List ℕ} (λ o. outcome (paper o.0) o.1)
   pub read_mark_line : Settles paper_mark
-  pub read_edit_line : Settles {A = EditRead × List ℕ × List ℕ × List ℕ} (λ o. filled (paper_edit o.0) o.1 o.2 o.3)
+  pub read_edit_line : Settles {A = Result EditRead Refusal × List ℕ × List ℕ × List ℕ} (λ o. filled (paper_edit o.0) o.1 o.2 o.3)

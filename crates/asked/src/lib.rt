@@ -2,9 +2,10 @@
 #![tactic(auto)]
 
 ghost use Rattle.std.specs.Prelude.{◌≡◌};
+ghost use Rattle.promise.specs.Paper.{done};
 ghost use Rattle.utf8.specs.Calls.{outcome};
 ghost use Rattle.frame.specs.Forms.{head_of, line_form};
-ghost use Rattle.reader.specs.Calls.{paper_read, filled};
+ghost use Rattle.reader.specs.Calls.{read_of, filled};
 ghost use Rattle.asked.specs.Calls.{paper_mark, paper_edit, chars_only, edit_only, text_into, mark_in, edit_into};
 ghost use Rattle.edit.specs.Call.{paper};
 
@@ -25,10 +26,10 @@ pub struct EditRead {
 }
 
 // What was read, if it is a text.
-fn text_only(frame: Result<FrameRead, Refusal>) -> Result<usize, Refusal>
-    ensures { paper result ≡ chars_only (paper_read frame) }
+fn text_only(frame: FrameRead) -> Result<usize, Refusal>
+    ensures { paper result ≡ chars_only (done (read_of frame)) }
 {
-    match frame? {
+    match frame {
         FrameRead::Text(count) => Ok(count),
         FrameRead::Mark(_) => Err(Refusal::BadFrame),
         FrameRead::Edit { .. } => Err(Refusal::BadFrame),
@@ -36,10 +37,10 @@ fn text_only(frame: Result<FrameRead, Refusal>) -> Result<usize, Refusal>
 }
 
 // What was read, if it is an edit.
-fn edit_only(frame: Result<FrameRead, Refusal>) -> Result<EditRead, Refusal>
-    ensures { paper_edit result ≡ edit_only (paper_read frame) }
+fn edit_only(frame: FrameRead) -> Result<EditRead, Refusal>
+    ensures { paper_edit result ≡ edit_only (done (read_of frame)) }
 {
-    match frame? {
+    match frame {
         FrameRead::Text(_) => Err(Refusal::BadFrame),
         FrameRead::Mark(_) => Err(Refusal::BadFrame),
         FrameRead::Edit {
@@ -67,7 +68,7 @@ pub fn read_text_line(line: &[u8], out: &mut [u32]) -> Result<usize, Refusal>
             // A text has no lists.
             let mut first = [0u32; 1];
             let mut second = [0u32; 1];
-            text_only(read(line, out, &mut first, &mut second))
+            text_only(read(line, out, &mut first, &mut second)?)
         }
         Head::Mark(_) => Err(Refusal::BadFrame),
         Head::Edit(_) => Err(Refusal::BadFrame),
@@ -100,6 +101,6 @@ pub fn read_edit_line(
         Head::Malformed => Err(Refusal::BadFrame),
         Head::Text => Err(Refusal::BadFrame),
         Head::Mark(_) => Err(Refusal::BadFrame),
-        Head::Edit(_) => edit_only(read(line, payload, first, second)),
+        Head::Edit(_) => edit_only(read(line, payload, first, second)?),
     }
 }

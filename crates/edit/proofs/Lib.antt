@@ -15,3 +15,4 @@ pub mod Theorems
 pub mod Samples
 pub mod Examples
 pub mod Workers
+pub mod Errors

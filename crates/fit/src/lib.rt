@@ -8,6 +8,7 @@ ghost use Rattle.cells.specs.Wide.{edges, ranges};
 ghost use Rattle.fit.specs.Calls.{fit_of, paper_box_fit, first_over, fits_in};
 
 use cells::{cell_after, wide_table};
+use edit::Refusal;
 use text::{Col, LF, Position, Row, is_text};
 use too_big::NUMBER_LIMIT;
 
@@ -16,6 +17,20 @@ use too_big::NUMBER_LIMIT;
 pub enum BoxError {
     BadText,
     TooBig,
+}
+
+impl From<BoxError> for Refusal {
+    ghost use Rattle.std.specs.Prelude.{◌≡◌};
+    ghost use Rattle.fit.specs.Errors.{box_refusal};
+
+    ghost from_gives = { λ bad why. why ≡ box_refusal bad };
+
+    fn from(bad: BoxError) -> Refusal {
+        match bad {
+            BoxError::BadText => Refusal::BadText,
+            BoxError::TooBig => Refusal::TooBig,
+        }
+    }
 }
 
 fn first_over(text: &[u32], cells: u32, tab: u32, table: &[u32]) -> Option<Position>

@@ -39,3 +39,8 @@ module _ (l out o : List ℕ) (u : Result ℕ UnhexError) (e : outcome (paper_un
 
   pub line-roomy : (length l ≤ digit_limit → length l ≤ 2 * length out) → u ≡ Err unhex_error.NoRoom → ⊥
   line-roomy h q = told_full l out o h (known_as (Err unhex_error.NoRoom) q)
+
+  -- where there is room, what is not read is no frame
+  pub line_unread : (length l ≤ digit_limit → length l ≤ 2 * length out) → (why : UnhexError) → u ≡ Err why → malformed ≡ line_form l
+  line_unread h unhex_error.BadFrame q = line-bad q
+  line_unread h unhex_error.NoRoom q = absurd (line-roomy h q)

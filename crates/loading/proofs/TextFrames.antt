@@ -9,6 +9,8 @@ use borrow.Author.Tests.{leb-true, le-leb}
 use lib.Dec.{leb}
 use lib.ListN.{length, take, drop, length-append, length-drop}
 use lib.Seq.{take-append_seam}
+use Rattle.std.specs.Prelude.{Result}
+use Rattle.edit.specs.declared.Refusal.{Refusal}
 use Rattle.promise.specs.Paper.{Paper, done, refused}
 use Rattle.promise.specs.Slices.{over}
 use Rattle.promise.proofs.Bools.{both}
@@ -76,7 +78,7 @@ module _ (x f s : List ℕ) (n : 18_431 ≤ length x) where
   tells p (broken k) z e = rw e refl
 
   -- r is the reader's answer, and y, g and u what is then in the slices
-  pub told : (l y g u : List ℕ) (r v : FrameRead) → head_of (line_form l) ≡ as_head.Text → filled (paper_read r) y g u ≡ read_into (frame_read l) x f s → r ≡ v
+  pub told : (l y g u : List ℕ) (r v : Result FrameRead Refusal) → head_of (line_form l) ≡ as_head.Text → filled (paper_read r) y g u ≡ read_into (frame_read l) x f s → r ≡ v
       → Tells (frame_read l) y (paper_read v)
   told l y g u r v h e q =
-      tells (frame_read l) (text-read l h) (filled (paper_read v) y g u) (ap {B = Filled} (λ (w : FrameRead). filled (paper_read w) y g u) (sym q) ∙ e)
+      tells (frame_read l) (text-read l h) (filled (paper_read v) y g u) (ap {B = Filled} (λ (w : Result FrameRead Refusal). filled (paper_read w) y g u) (sym q) ∙ e)

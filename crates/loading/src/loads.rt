@@ -52,8 +52,7 @@ pub fn step_text(script: Script, line: &[u8], text: &mut [u32], out: &mut [u8]) 
     let mut payload = [0u32; BYTE_LIMIT];
     let mut first = [0u32; 1];
     let mut second = [0u32; 1];
-    let frame = read(line, &mut payload, &mut first, &mut second);
-    match frame {
+    match read(line, &mut payload, &mut first, &mut second) {
         Ok(FrameRead::Text(count)) => load(script, &payload[0..count], text, out),
         Err(why) => refuse(script, why, out),
         Ok(FrameRead::Mark(_)) => refuse(script, Refusal::BadFrame, out),

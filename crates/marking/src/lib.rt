@@ -124,7 +124,7 @@ pub fn print_mark(mark: &[u32], out: &mut [u8]) -> usize
         print_byte(0x03, out);
         return 3;
     }
-    write_mark(sel_in(mark), out);
+    let _ = write_mark(sel_in(mark), out);
     out[34] = 10;
     35
 }

@@ -1,3 +1,4 @@
 pub mod Items
 pub mod Theorems
 pub mod Examples
+pub mod Boxes

@@ -1,8 +1,7 @@
 -- What rules out wrong records: each line is what the promise asks for at one input, and above it stands the program that tells something else.
 use Rattle.std.specs.Prelude.{◌≡◌, true, false, ℕ}
-use Rattle.std.specs.Prelude.{Some}
 use Rattle.promise.specs.Paper.{done, refused}
-use Rattle.utf8.specs.declared.Decoded.TheVariants.{NoRoom}
+use Rattle.utf8.specs.declared.DecodeError.TheVariants as decode_error
 use Rattle.utf8.specs.Answers.{paper_decoded}
 use Rattle.text.specs.Rows.{at}
 use Rattle.text.specs.Answers.{paper_clamped}
@@ -39,7 +38,7 @@ pub record RuledOut : Type 0 where
   pub too_big : told_fit (paper_box_fit (Err box_error.TooBig)) ≡ record { refusal = 2; found = false; at = at 0 0 }
   pub no_text : told_clamped (paper_clamped (Err (record {}))) ≡ record { refusal = 1; found = false; at = at 0 0 }
   -- 8 told as 9
-  pub no_room : told_count (paper_decoded NoRoom) ≡ record { refusal = 8; offset = 0; count = 0 }
+  pub no_room : told_count (paper_decoded (Err decode_error.NoRoom)) ≡ record { refusal = 8; offset = 0; count = 0 }
   -- a closed span told to end where it begins
   pub span : told_span (between 1 3) ≡ record { refusal = 0; covered = true; «open» = false; lo = 1; hi = 3 }
   -- the rows of a selection told with the last first; the column of a Line selection's head kept

@@ -1,6 +1,7 @@
 -- What a caller is told of an answer. "A refusal yields its number (offset 0 except for 5)"; the number is 0 where nothing is refused, and
 -- what is not said is 0 or no.
 use Rattle.std.specs.Prelude.{Bool, true, false, ℕ}
+use Rattle.std.specs.Prelude.{Option, Some, None}
 use Rattle.promise.specs.Paper.{Paper, done, refused}
 use Rattle.text.specs.declared.Position.{Position}
 use Rattle.text.specs.Rows.{at}
@@ -48,6 +49,11 @@ not_found n = record { refusal = n; found = false; at = at 0 0 }
 abbrev pub told_clamped : Paper Position → Found
 told_clamped (done p) = found_at p
 told_clamped (refused n k) = not_found n
+
+-- a position, where there is one
+abbrev pub found_of : Option Position → Found
+found_of (Some p) = found_at p
+found_of None = not_found 0
 
 abbrev pub told_fit : Paper Fit → Found
 told_fit (done all_fit) = not_found 0

@@ -6,7 +6,7 @@ ghost use Rattle.text.specs.Answers.{paper_clamped};
 ghost use Rattle.fit.specs.Calls.{paper_box_fit};
 ghost use Rattle.edit.specs.Call.{paper, number_of, offset_of};
 ghost use Rattle.select.specs.Answers.{paper_row_span};
-ghost use Rattle.plain.specs.Told.{told_count, told_done, told_applied, found_at, not_found, told_clamped, told_fit, found_sel, no_sel, no_cover, told_span, no_bounds, told_bounds, ends_of, told_line, no_line};
+ghost use Rattle.plain.specs.Told.{told_count, told_done, told_applied, found_at, found_of, not_found, told_clamped, told_fit, found_sel, no_sel, no_cover, told_span, no_bounds, told_bounds, ends_of, told_line, no_line};
 
 use crate::edits::{no_edit, origin, told_edit};
 use crate::{Bounds, Change, Count, Cover, EditLine, Found, SelFound};
@@ -70,6 +70,16 @@ pub fn not_found(refusal: u32) -> Found
         refusal,
         found: false,
         at: origin(),
+    }
+}
+
+// A position, where there is one.
+pub fn found_of(found: Option<Position>) -> Found
+    ensures { result ≡ found_of found }
+{
+    match found {
+        Some(at) => found_at(at),
+        None => not_found(0),
     }
 }
 
@@ -158,13 +168,21 @@ pub fn told_answer(view: View, answer: Result<Applied, Refusal>) -> Change
     }
 }
 
+pub fn told_count(answer: Result<usize, Refusal>) -> Count
+    ensures { result ≡ told_count (paper answer) }
+{
+    match answer {
+        Ok(n) => counted(n),
+        Err(why) => not_counted(why),
+    }
+}
+
 pub fn told_decoded(decoded: Result<usize, DecodeError>) -> Count
     ensures { result ≡ told_count (paper_decoded decoded) }
 {
     match decoded {
         Ok(n) => counted(n),
-        Err(DecodeError::BadUtf8(at)) => not_counted(Refusal::BadUtf8(at)),
-        Err(DecodeError::NoRoom) => not_counted(Refusal::NoRoom),
+        Err(why) => not_counted(Refusal::from(why)),
     }
 }
 
@@ -173,8 +191,7 @@ pub fn told_encoded(encoded: Result<usize, EncodeError>) -> Count
 {
     match encoded {
         Ok(n) => counted(n),
-        Err(EncodeError::BadText) => not_counted(Refusal::BadText),
-        Err(EncodeError::NoRoom) => not_counted(Refusal::NoRoom),
+        Err(why) => not_counted(Refusal::from(why)),
     }
 }
 
@@ -191,10 +208,8 @@ pub fn told_fit(fit: Result<Option<Position>, BoxError>) -> Found
     ensures { result ≡ told_fit (paper_box_fit fit) }
 {
     match fit {
-        Ok(None) => not_found(0),
-        Ok(Some(at)) => found_at(at),
-        Err(BoxError::BadText) => not_found(1),
-        Err(BoxError::TooBig) => not_found(2),
+        Ok(found) => found_of(found),
+        Err(why) => not_found(Refusal::from(why).number()),
     }
 }
 

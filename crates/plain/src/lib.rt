@@ -5,9 +5,9 @@ mod answers;
 mod edits;
 
 pub use answers::{
-    counted, found_at, found_sel, line_read, no_bounds, no_cover, no_line, no_sel, not_changed,
-    not_counted, not_found, told_answer, told_bounds, told_clamped, told_decoded, told_encoded,
-    told_ends, told_fit, told_span,
+    counted, found_at, found_of, found_sel, line_read, no_bounds, no_cover, no_line, no_sel,
+    not_changed, not_counted, not_found, told_answer, told_bounds, told_clamped, told_count,
+    told_decoded, told_encoded, told_ends, told_fit, told_span,
 };
 use edit::{Edit, View};
 pub use edits::{meant_edit, meant_selection, told_edit};

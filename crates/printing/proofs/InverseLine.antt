@@ -5,6 +5,9 @@ use Prim.Native.Nat.{ℕ, ◌+◌, ◌-◌, ◌≤◌}
 use native.Mathlib.Omega.{arith}
 use lib.ListN.{length, take, drop, set, length-append, length-drop}
 use lib.Seq.{drop-drop, take-length}
+use Rattle.std.specs.Prelude.{Result, Ok, Err, IsOk}
+use Rattle.edit.specs.declared.Refusal.{Refusal}
+use Rattle.edit.specs.Call.{paper, number_of, offset_of}
 use Rattle.promise.specs.Paper.{Paper, done, refused}
 use Rattle.promise.specs.Slices.{over}
 use Rattle.promise.proofs.Lists.{tail_whole, part-pasted, over-more}
@@ -75,3 +78,7 @@ module _ (f : Frame) (o t y : List ℕ) (h : 36_867 ≤ length o) (line : HasLin
   line_refused n k e =
       let a : refused n k ≡ done (length digits) = ap (λ (r : Outcome). r.answer) (e ∙ written) in
       let z : ◌≡◌ {A = ℕ} 0 1 = cc in omega arith
+
+  pub line_ok : (w : Result ℕ Refusal) → Behind (paper w) → IsOk w
+  line_ok (Ok n) e = refl
+  line_ok (Err y) e = absurd (line_refused (number_of y) (offset_of y) e)

@@ -20,7 +20,7 @@ use Rattle.frame.specs.Inverses.{HasLine}
 use Rattle.frame.proofs.Theorems.{line-done}
 use Rattle.writer.specs.Calls.{line_into, written_into}
 use Rattle.printing.specs.Prints.{printed_as}
-use Rattle.std.specs.Prelude.{Result, Ok, Err}
+use Rattle.std.specs.Prelude.{Result, Ok, Err, IsOk}
 
 stored-count : (l out t : List ℕ) (n : ℕ) → outcome (done n) t ≡ stored l out → n ≡ length l
 unfolding stored
@@ -69,3 +69,10 @@ module _ (f : Frame) (h : HasLine f) (out t : List ℕ) (w : Result ℕ Refusal)
   wrote_never y q =
       let a : refused (number_of y) (offset_of y) ≡ done (length digits) = ap paper (sym q) ∙ ap (λ (o : Outcome). o.answer) fits in
       let z : ◌≡◌ {A = ℕ} 0 1 = cc in omega arith
+
+  pub wrote_ok : IsOk w
+  wrote_ok = go w refl
+    where
+      go : (v : Result ℕ Refusal) → w ≡ v → IsOk v
+      go (Ok n) q = refl
+      go (Err y) q = absurd (wrote_never y q)

@@ -23,7 +23,7 @@ pub fn print_byte(byte: u8, out: &mut [u8])
     ensures { out.new ≡ over (printed_as (byte ∷ [])) out.old }
 {
     let bytes = [byte; 1];
-    hex(&bytes, out);
+    let _ = hex(&bytes, out);
     out[2] = LF;
 }
 

@@ -1,12 +1,13 @@
 -- What is proved beside that the code meets its promises. The proofs stand in proofs/Theorems.antt.
-use Rattle.std.specs.Prelude.{List, ℕ}
+use Rattle.std.specs.Prelude.{List, ℕ, Result}
 use Rattle.promise.specs.Settled.{Settles}
+use Rattle.edit.specs.declared.Refusal.{Refusal}
 use Rattle.reader.specs.declared.FrameRead.{FrameRead}
 use Rattle.reader.specs.Calls.{paper_read, filled}
 
 -- what is there when `read` returns
 pub record Exit : Type 0 where
-  pub answer : FrameRead
+  pub answer : Result FrameRead Refusal
   pub payload : List ℕ
   pub first : List ℕ
   pub second : List ℕ

@@ -19,7 +19,7 @@ use crate::strings::{read_chunks, read_string, read_text};
 use edit::{Edit, Refusal};
 use forms::head_of;
 use frame::{BYTE_LIMIT, Head, SHORT_BYTES, SHORT_LINE};
-use hexline::{UnhexError, unhex};
+use hexline::unhex;
 use select::Sel;
 
 // A frame, with how much of the payload's and the lists' slices it takes.
@@ -77,7 +77,12 @@ fn read_edit(
     }
 }
 
-fn read_bytes(bytes: &[u8], payload: &mut [u32], first: &mut [u32], second: &mut [u32]) -> Result<FrameRead, Refusal>
+fn read_bytes(
+    bytes: &[u8],
+    payload: &mut [u32],
+    first: &mut [u32],
+    second: &mut [u32],
+) -> Result<FrameRead, Refusal>
     ensures { filled (paper_read result) payload.new first.new second.new ≡ read_into (read_form (form_of bytes.now)) payload.old first.old second.old }
 {
     let head = head_of(bytes);
@@ -103,14 +108,18 @@ fn read_line(
     let unhexed = unhex(line, bytes);
     match unhexed {
         Ok(count) => read_bytes(&bytes[0..count], payload, first, second),
-        Err(UnhexError::BadFrame) => Err(Refusal::BadFrame),
-        // There is room, so this does not come.
-        Err(UnhexError::NoRoom) => Err(Refusal::NoRoom),
+        // There is room for them, so they are no digits.
+        Err(_) => Err(Refusal::BadFrame),
     }
 }
 
 // The frame that a line is.
-pub fn read(line: &[u8], payload: &mut [u32], first: &mut [u32], second: &mut [u32]) -> Result<FrameRead, Refusal>
+pub fn read(
+    line: &[u8],
+    payload: &mut [u32],
+    first: &mut [u32],
+    second: &mut [u32],
+) -> Result<FrameRead, Refusal>
     ensures { filled (paper_read result) payload.new first.new second.new ≡ read_into (frame_read line.now) payload.old first.old second.old }
 {
     if line.len() <= SHORT_LINE {

@@ -47,7 +47,12 @@ fn fill_flags(bytes: &[u8], out: &mut [u32])
 }
 
 // A split's columns and flags.
-pub fn read_columns(edit: Edit, bytes: &[u8], first: &mut [u32], second: &mut [u32]) -> Result<FrameRead, Refusal>
+pub fn read_columns(
+    edit: Edit,
+    bytes: &[u8],
+    first: &mut [u32],
+    second: &mut [u32],
+) -> Result<FrameRead, Refusal>
     ensures { (x : List ℕ) → filled (paper_read result) x first.new second.new ≡ read_into (done (format.edit (whole edit [] (columns_in bytes.now) (flags_in bytes.now)))) x first.old second.old }
 {
     let count = bytes.len() / 5;
@@ -68,7 +73,12 @@ pub fn read_columns(edit: Edit, bytes: &[u8], first: &mut [u32], second: &mut [u
 }
 
 // The widths and pads of chunks.
-pub fn read_widths(edit: Edit, bytes: &[u8], first: &mut [u32], second: &mut [u32]) -> Result<FrameRead, Refusal>
+pub fn read_widths(
+    edit: Edit,
+    bytes: &[u8],
+    first: &mut [u32],
+    second: &mut [u32],
+) -> Result<FrameRead, Refusal>
     ensures { (x : List ℕ) → filled (paper_read result) x first.new second.new ≡ read_into (done (format.edit (whole edit [] (widths_in bytes.now) (pads_in bytes.now)))) x first.old second.old }
 {
     let count = bytes.len() / 8;

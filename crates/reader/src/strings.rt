@@ -21,8 +21,7 @@ fn decode_from(bytes: &[u8], from: usize, payload: &mut [u32]) -> Result<usize, 
     requires { from ≤ length bytes.now }
     ensures { outcome (paper_decoded result) payload.new ≡ chars_into (contents from (drop from bytes.now ∷ [])) payload.old }
 {
-    let decoded = decode(&bytes[from..], payload);
-    match decoded {
+    match decode(&bytes[from..], payload) {
         Ok(count) => Ok(count),
         Err(DecodeError::BadUtf8(at)) => Err(DecodeError::BadUtf8(ByteOffset(from + at.0))),
         Err(DecodeError::NoRoom) => Err(DecodeError::NoRoom),
@@ -39,7 +38,12 @@ pub fn read_text(bytes: &[u8], payload: &mut [u32]) -> Result<FrameRead, Refusal
 }
 
 // The characters of an edit that has one string and no lists.
-pub fn read_string(edit: Edit, bytes: &[u8], from: usize, payload: &mut [u32]) -> Result<FrameRead, Refusal>
+pub fn read_string(
+    edit: Edit,
+    bytes: &[u8],
+    from: usize,
+    payload: &mut [u32],
+) -> Result<FrameRead, Refusal>
     requires { (from ≤ length bytes.now) × ((xs : List (List ℕ)) → first_list edit xs [] ≡ []) }
     ensures { (f s : List ℕ) → filled (paper_read result) payload.new f s ≡ read_into (edit_of edit [] [] (contents from (drop from bytes.now ∷ []))) payload.old f s }
 {
@@ -108,7 +112,12 @@ fn fill_chunks(strings: &[u8], payload: &mut [u32], first: &mut [u32])
 }
 
 // A block's strings.
-pub fn read_chunks(edit: Edit, strings: &[u8], payload: &mut [u32], first: &mut [u32]) -> Result<FrameRead, Refusal>
+pub fn read_chunks(
+    edit: Edit,
+    strings: &[u8],
+    payload: &mut [u32],
+    first: &mut [u32],
+) -> Result<FrameRead, Refusal>
     requires { (is_cut (strings_in strings.now) ≡ true) × ((xs : List (List ℕ)) → first_list edit xs [] ≡ map length xs) }
     ensures { (s : List ℕ) → filled (paper_read result) payload.new first.new s ≡ read_into (edit_of edit [] [] (contents 13 (strings_of (strings_in strings.now)))) payload.old first.old s }
 {

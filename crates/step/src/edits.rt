@@ -173,14 +173,15 @@ fn step_read(
     requires { Ready script text.old marks.old × (36_867 ≤ length out.old) × ((e : AnEdit) × (head_of (line_form line.now) ≡ as_head.Edit e)) × ((length line.now ≤ 2 * length payload.old) × (length line.now ≤ 8 * length first.old) × (length line.now ≤ 10 * length second.old)) }
     ensures { left result text.new marks.new out.new ≡ leaves (framed (state_of script text.old marks.old) (frame_read line.now)) marks.old out.old }
 {
-    let frame = read(line, payload, first, second);
-    match frame {
-        Ok(FrameRead::Edit {
-            edit,
-            payload: x,
-            first: f,
-            second: s,
-        }) => run_frame(
+    match read(line, payload, first, second) {
+        Ok(
+            FrameRead::Edit {
+                edit,
+                payload: x,
+                first: f,
+                second: s,
+            },
+        ) => run_frame(
             script,
             edit,
             &payload[0..x],

@@ -3,7 +3,8 @@
 
 ghost use Rattle.std.specs.Prelude.{◌≡◌};
 ghost use Rattle.asked.specs.Calls.{paper_mark, paper_edit};
-ghost use Rattle.shift.specs.Answers.{paper_shifted};
+ghost use Rattle.promise.specs.Paper.{done};
+ghost use Rattle.shift.specs.Answers.{followed, paper_shifted};
 ghost use Rattle.view.specs.Answers.{paper_cursor_set};
 ghost use Rattle.script.specs.Calls.{paper_ran};
 ghost use Rattle.plain.specs.Told.{told_count, told_yes, told_view};
@@ -13,13 +14,13 @@ ghost use Rattle.edit.specs.Call.{paper};
 
 use asked::EditRead;
 use edit::{Refusal, View};
+use hexline::BadFrame;
 use plain::{
-    Count, EditLine, Found, Said, SelFound, Viewed, counted, found_at, found_sel, line_read,
+    Count, EditLine, Found, Said, SelFound, Viewed, counted, found_of, found_sel, line_read,
     no_line, no_sel, not_counted, not_found,
 };
 use select::Sel;
 use text::Position;
-use hexline::BadFrame;
 use utf8::{BadText, NoRoom};
 
 pub fn told_ran(ran: Result<usize, NoRoom>) -> Count
@@ -31,31 +32,22 @@ pub fn told_ran(ran: Result<usize, NoRoom>) -> Count
     }
 }
 
-pub fn told_written(written: Result<usize, Refusal>) -> Count
-    ensures { result ≡ told_count (paper written) }
-{
-    match written {
-        Ok(n) => counted(n),
-        Err(why) => not_counted(why),
-    }
-}
-
-pub fn told_merged(merged: Result<usize, Refusal>) -> Count
-    ensures { result ≡ told_count (paper merged) }
-{
-    match merged {
-        Ok(n) => counted(n),
-        Err(why) => not_counted(why),
-    }
-}
-
 pub fn told_shifted(shifted: Result<Option<Position>, Refusal>) -> Found
     ensures { result ≡ told_shifted (paper_shifted shifted) }
 {
     match shifted {
-        Ok(Some(at)) => found_at(at),
-        Ok(None) => not_found(0),
+        Ok(found) => found_of(found),
         Err(why) => not_found(why.number()),
+    }
+}
+
+// A selection, where there is one.
+fn found_sel_of(found: Option<Sel>) -> SelFound
+    ensures { result ≡ told_sel_shifted (done (followed found)) }
+{
+    match found {
+        Some(sel) => found_sel(sel),
+        None => no_sel(0),
     }
 }
 
@@ -63,8 +55,7 @@ pub fn told_sel_shifted(shifted: Result<Option<Sel>, Refusal>) -> SelFound
     ensures { result ≡ told_sel_shifted (paper_shifted shifted) }
 {
     match shifted {
-        Ok(Some(sel)) => found_sel(sel),
-        Ok(None) => no_sel(0),
+        Ok(found) => found_sel_of(found),
         Err(why) => no_sel(why.number()),
     }
 }
@@ -91,15 +82,6 @@ pub fn told_cursor(view: View, set: Result<View, BadText>) -> Viewed
             view: after,
         },
         Err(BadText) => Viewed { refusal: 1, view },
-    }
-}
-
-pub fn told_text_read(read: Result<usize, Refusal>) -> Count
-    ensures { result ≡ told_count (paper read) }
-{
-    match read {
-        Ok(n) => counted(n),
-        Err(why) => not_counted(why),
     }
 }
 

@@ -16,7 +16,7 @@ ghost use Rattle.writer.specs.Calls.{written_into};
 ghost use Rattle.asked.specs.Calls.{text_into, mark_in, edit_into};
 ghost use Rattle.framed.specs.Calls.{line_applied};
 ghost use Rattle.script.specs.Calls.{ran_into};
-ghost use Rattle.plain.specs.Told.{told_clamped, told_fit, told_view};
+ghost use Rattle.plain.specs.Told.{told_clamped, told_count, told_fit, told_view};
 ghost use Rattle.told.specs.Lines.{told_mark};
 ghost use Rattle.winchbarn.specs.Calls.{counted, changed, changed_in, framed, told_into, told_merge, told_call, told_frame, edit_call, edit_call_in, line_call, undoable_call, shift_call, sel_call, span_call, head_call, anchor_call, extend_call, bounds_call};
 
@@ -40,8 +40,8 @@ use select::Sel;
 use shift::{shift_position, shift_sel};
 use text::{Position, Row};
 use told::{
-    told_cursor, told_edit_read, told_mark_read, told_merged, told_ran, told_sel_shifted,
-    told_shifted, told_text_read, told_undoable, told_written,
+    told_cursor, told_edit_read, told_mark_read, told_ran, told_sel_shifted,
+    told_shifted, told_undoable,
 };
 use view::{set_cursor, undoable};
 use writer::{write_edit, write_mark, write_text};
@@ -130,7 +130,7 @@ pub fn winchbarn_write_edit(
 {
     let meant = meant_edit(edit);
     match meant {
-        Some(e) => told_written(write_edit(e, payload, first, second, out)),
+        Some(e) => told_count(write_edit(e, payload, first, second, out)),
         None => not_counted(Refusal::BadFrame),
     }
 }
@@ -138,13 +138,13 @@ pub fn winchbarn_write_edit(
 pub fn winchbarn_write_text(text: &[u32], out: &mut [u8]) -> Count
     ensures { counted result out.new ≡ told_into (written_into (format.text text.now) out.old) }
 {
-    told_written(write_text(text, out))
+    told_count(write_text(text, out))
 }
 
 pub fn winchbarn_write_mark(mark: Sel, out: &mut [u8]) -> Count
     ensures { counted result out.new ≡ told_into (written_into (format.mark mark) out.old) }
 {
-    told_written(write_mark(mark, out))
+    told_count(write_mark(mark, out))
 }
 
 pub fn winchbarn_read_edit(
@@ -161,7 +161,7 @@ pub fn winchbarn_read_edit(
 pub fn winchbarn_read_text(line: &[u8], out: &mut [u32]) -> Count
     ensures { counted result out.new ≡ told_into (text_into (line_form line.now) out.old) }
 {
-    told_text_read(read_text_line(line, out))
+    told_count(read_text_line(line, out))
 }
 
 pub fn winchbarn_read_mark(line: &[u8]) -> SelFound
@@ -251,7 +251,7 @@ pub fn winchbarn_shift_sel(
 pub fn winchbarn_merge_overlapping(sels: &[u32], out: &mut [u32]) -> Count
     ensures { counted result out.new ≡ told_merge (merged_in sels.now out.old) }
 {
-    told_merged(merge_overlapping(sels, out))
+    told_count(merge_overlapping(sels, out))
 }
 
 pub fn winchbarn_sel_caret(pos: Position) -> Sel

@@ -9,6 +9,12 @@ use borrow.Author.Tests.{ltb-true, ltb-false, not-true, not-false, le-leb, lt-le
 use lib.Dec.{ltb}
 use lib.ListN.{length, take, drop, set, length-set, length-append, length-take, length-drop, drop_of_length-le}
 use lib.Seq.{paste, take_at}
+use Rattle.std.specs.Prelude.{Err}
+use Rattle.utf8.specs.declared.EncodeError.{EncodeError}
+use Rattle.utf8.specs.declared.EncodeError.TheVariants as encode_error
+use Rattle.utf8.specs.Answers.{paper_encoded}
+use Rattle.edit.specs.Call.{paper}
+use Rattle.edit.specs.Errors.{encode_refusal}
 use Rattle.promise.specs.Paper.{Paper, done, refused}
 use Rattle.promise.specs.Slices.{over}
 use Rattle.promise.proofs.Lists.{part-pasted}
@@ -140,6 +146,10 @@ module _ (cs out b t y : List ℕ) (l : length b ≡ 18_432) (p : t ≡ set b 0 
   text-long e =
       let d = encode_long cs (take (length t - 1) (drop 1 t)) y e in
       no_line (text cs) out refl d.0 (omega (arith, d.1, rest_length))
+
+  pub text_refused : (e : EncodeError) → outcome (paper_encoded (Err e)) y ≡ encoded cs (take (length t - 1) (drop 1 t)) → outcome (paper (Err (encode_refusal e))) out ≡ written_into (text cs) out
+  text_refused encode_error.BadText e = text-bad e
+  text_refused encode_error.NoRoom e = text-long e
 
 -- ---- a mark
 

@@ -8,6 +8,3 @@ returns-in-Mark c = rw c.in-Mark.is
 
 pub returns-in-Edit : goal.returns-in-Edit
 returns-in-Edit c = rw c.in-Edit.is
-
-pub returns-in-Refused : goal.returns-in-Refused
-returns-in-Refused c = rw c.in-Refused.is

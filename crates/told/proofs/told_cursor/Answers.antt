@@ -1,7 +1,7 @@
 use Rattle.told.proofs.told_cursor.Goals as goal
 
-pub returns-in-At : goal.returns-in-At
-returns-in-At c = rw c.in-At.is
+pub returns-in-Ok : goal.returns-in-Ok
+returns-in-Ok c = rw c.in-Ok.is
 
-pub returns-in-BadText : goal.returns-in-BadText
-returns-in-BadText c = rw c.in-BadText.is
+pub returns-in-Err : goal.returns-in-Err
+returns-in-Err c = rw c.in-Err.is

@@ -1,7 +1,7 @@
 use Rattle.told.proofs.told_edit_read.Goals as goal
 
-pub returns-in-Edit : goal.returns-in-Edit
-returns-in-Edit c = rw c.in-Edit.is c.line_read.ensures
+pub returns-in-Ok : goal.returns-in-Ok
+returns-in-Ok c = rw c.in-Ok.is c.line_read.ensures
 
-pub returns-in-Refused : goal.returns-in-Refused
-returns-in-Refused c = rw c.in-Refused.is c.no_line.ensures
+pub returns-in-Err : goal.returns-in-Err
+returns-in-Err c = rw c.in-Err.is c.no_line.ensures

@@ -1,7 +1,7 @@
 use Rattle.told.proofs.told_mark_read.Goals as goal
 
-pub returns-in-Mark : goal.returns-in-Mark
-returns-in-Mark c = rw c.in-Mark.is c.found_sel.ensures
+pub returns-in-Ok : goal.returns-in-Ok
+returns-in-Ok c = rw c.in-Ok.is c.found_sel.ensures
 
-pub returns-in-BadFrame : goal.returns-in-BadFrame
-returns-in-BadFrame c = rw c.in-BadFrame.is c.no_sel.ensures
+pub returns-in-Err : goal.returns-in-Err
+returns-in-Err c = rw c.in-Err.is c.no_sel.ensures

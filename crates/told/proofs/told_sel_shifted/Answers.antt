@@ -1,10 +1,7 @@
 use Rattle.told.proofs.told_sel_shifted.Goals as goal
 
-pub returns-in-At : goal.returns-in-At
-returns-in-At c = rw c.in-At.is c.found_sel.ensures
+pub returns-in-Ok : goal.returns-in-Ok
+returns-in-Ok c = rw c.in-Ok.is c.found_sel_of.ensures
 
-pub returns-in-Dropped : goal.returns-in-Dropped
-returns-in-Dropped c = rw c.in-Dropped.is c.no_sel.ensures
-
-pub returns-in-Refused : goal.returns-in-Refused
-returns-in-Refused c = rw (c.in-Refused.is, ← c.number.ensures) c.no_sel-in-Refused.ensures
+pub returns-in-Err : goal.returns-in-Err
+returns-in-Err c = rw (c.in-Err.is, ← c.number.ensures) c.no_sel.ensures

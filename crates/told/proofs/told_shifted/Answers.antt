@@ -1,10 +1,8 @@
+use Rattle.told.proofs.Found.{shift_found}
 use Rattle.told.proofs.told_shifted.Goals as goal
 
-pub returns-in-At : goal.returns-in-At
-returns-in-At c = rw c.in-At.is c.found_at.ensures
+pub returns-in-Ok : goal.returns-in-Ok
+returns-in-Ok c = rw (c.in-Ok.is, shift_found c.in-Ok.found) c.found_of.ensures
 
-pub returns-in-Dropped : goal.returns-in-Dropped
-returns-in-Dropped c = rw c.in-Dropped.is c.not_found.ensures
-
-pub returns-in-Refused : goal.returns-in-Refused
-returns-in-Refused c = rw (c.in-Refused.is, ← c.number.ensures) c.not_found-in-Refused.ensures
+pub returns-in-Err : goal.returns-in-Err
+returns-in-Err c = rw (c.in-Err.is, ← c.number.ensures) c.not_found.ensures

@@ -2,4 +2,4 @@ use Rattle.winchbarn.proofs.Tellings.{told_into_lem}
 use Rattle.winchbarn.proofs.winchbarn_read_text.Goals as goal
 
 pub returns : goal.returns
-returns c = told_into_lem _ _ _ _ c.told_text_read.ensures c.read_text_line.ensures
+returns c = told_into_lem _ _ _ _ c.told_count.ensures c.read_text_line.ensures

@@ -5,8 +5,8 @@ use Rattle.select.specs.declared.Selection.{Selection}
 use Rattle.select.specs.Selections.{row_span}
 use Rattle.winchbarn.proofs.winchbarn_row_span.Goals as goal
 
-pub returns-in-Selection : goal.returns-in-Selection
-returns-in-Selection c = by_kind c.args.kind c.args.sel c.meant_selection-meant.result c.meant_selection-meant.ensures _ (no_cover 10) (λ (s : Selection). told_span (row_span s c.args.row)) _ c.in-Selection.is (c.told_span.ensures ∙ ap told_span c.row_span.ensures)
+pub returns-in-Some : goal.returns-in-Some
+returns-in-Some c = by_kind c.args.kind c.args.sel c.meant_selection-meant.result c.meant_selection-meant.ensures _ (no_cover 10) (λ (s : Selection). told_span (row_span s c.args.row)) _ c.in-Some.is (c.told_span.ensures ∙ ap told_span c.row_span.ensures)
 
-pub returns-in-NoKind : goal.returns-in-NoKind
-returns-in-NoKind c = kindless c.args.kind c.args.sel c.meant_selection-meant.result c.meant_selection-meant.ensures _ (no_cover 10) (λ (s : Selection). told_span (row_span s c.args.row)) c.in-NoKind.is c.no_cover.ensures
+pub returns-in-None : goal.returns-in-None
+returns-in-None c = kindless c.args.kind c.args.sel c.meant_selection-meant.result c.meant_selection-meant.ensures _ (no_cover 10) (λ (s : Selection). told_span (row_span s c.args.row)) c.in-None.is c.no_cover.ensures

@@ -5,8 +5,8 @@ use Rattle.select.specs.declared.Selection.{Selection}
 use Rattle.select.specs.Selections.{head_of}
 use Rattle.winchbarn.proofs.winchbarn_selection_head.Goals as goal
 
-pub returns-in-Selection : goal.returns-in-Selection
-returns-in-Selection c = by_kind c.args.kind c.args.sel c.meant_selection-meant.result c.meant_selection-meant.ensures _ (not_found 10) (λ (s : Selection). found_at (head_of s)) _ c.in-Selection.is (c.found_at.ensures ∙ ap found_at c.head.ensures)
+pub returns-in-Some : goal.returns-in-Some
+returns-in-Some c = by_kind c.args.kind c.args.sel c.meant_selection-meant.result c.meant_selection-meant.ensures _ (not_found 10) (λ (s : Selection). found_at (head_of s)) _ c.in-Some.is (c.found_at.ensures ∙ ap found_at c.head.ensures)
 
-pub returns-in-NoKind : goal.returns-in-NoKind
-returns-in-NoKind c = kindless c.args.kind c.args.sel c.meant_selection-meant.result c.meant_selection-meant.ensures _ (not_found 10) (λ (s : Selection). found_at (head_of s)) c.in-NoKind.is c.not_found.ensures
+pub returns-in-None : goal.returns-in-None
+returns-in-None c = kindless c.args.kind c.args.sel c.meant_selection-meant.result c.meant_selection-meant.ensures _ (not_found 10) (λ (s : Selection). found_at (head_of s)) c.in-None.is c.not_found.ensures

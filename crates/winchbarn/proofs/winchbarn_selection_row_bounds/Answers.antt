@@ -5,8 +5,8 @@ use Rattle.select.specs.declared.Selection.{Selection}
 use Rattle.select.specs.Selections.{row_bounds}
 use Rattle.winchbarn.proofs.winchbarn_selection_row_bounds.Goals as goal
 
-pub returns-in-Selection : goal.returns-in-Selection
-returns-in-Selection c = by_kind c.args.kind c.args.sel c.meant_selection-meant.result c.meant_selection-meant.ensures _ (no_bounds 10) (λ (s : Selection). told_bounds (row_bounds s)) _ c.in-Selection.is (c.told_bounds.ensures ∙ ap told_bounds c.row_bounds.ensures)
+pub returns-in-Some : goal.returns-in-Some
+returns-in-Some c = by_kind c.args.kind c.args.sel c.meant_selection-meant.result c.meant_selection-meant.ensures _ (no_bounds 10) (λ (s : Selection). told_bounds (row_bounds s)) _ c.in-Some.is (c.told_bounds.ensures ∙ ap told_bounds c.row_bounds.ensures)
 
-pub returns-in-NoKind : goal.returns-in-NoKind
-returns-in-NoKind c = kindless c.args.kind c.args.sel c.meant_selection-meant.result c.meant_selection-meant.ensures _ (no_bounds 10) (λ (s : Selection). told_bounds (row_bounds s)) c.in-NoKind.is c.no_bounds.ensures
+pub returns-in-None : goal.returns-in-None
+returns-in-None c = kindless c.args.kind c.args.sel c.meant_selection-meant.result c.meant_selection-meant.ensures _ (no_bounds 10) (λ (s : Selection). told_bounds (row_bounds s)) c.in-None.is c.no_bounds.ensures

@@ -2,4 +2,4 @@ use Rattle.winchbarn.proofs.Tellings.{told_into_lem}
 use Rattle.winchbarn.proofs.winchbarn_write_mark.Goals as goal
 
 pub returns : goal.returns
-returns c = told_into_lem _ _ _ _ c.told_written.ensures c.write_mark.ensures
+returns c = told_into_lem _ _ _ _ c.told_count.ensures c.write_mark.ensures

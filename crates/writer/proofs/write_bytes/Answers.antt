@@ -1,9 +1,10 @@
+use Rattle.std.proofs.lemmas.Result.{err_from_is_err_and}
 use Rattle.promise.specs.Paper.{done, refused}
 use Rattle.writer.proofs.Lined.{digits_stored}
 use Rattle.writer.proofs.write_bytes.Goals as goal
 
-pub returns-in-Digits : goal.returns-in-Digits
-returns-in-Digits c = digits_stored c.args.bytes.now c.args.out.now (done c.in-Digits.count) _ c.requires (rw c.in-Digits.is at c.hex-digits.ensures)
+pub returns-in_err-hex : goal.returns-in_err-hex
+returns-in_err-hex c = let p = err_from_is_err_and c.from_residual.result c.from_residual.ensures.1 in rw (p.1, p.2) (digits_stored c.args.bytes.now c.args.out.now (refused 8 0) _ c.requires c.in_err-hex.ensures)
 
-pub returns-in-NoRoom : goal.returns-in-NoRoom
-returns-in-NoRoom c = digits_stored c.args.bytes.now c.args.out.now (refused 8 0) _ c.requires (rw c.in-NoRoom.is at c.hex-digits.ensures)
+pub returns : goal.returns
+returns c = digits_stored c.args.bytes.now c.args.out.now (done c.in_ok-hex.field-0) _ c.requires c.in_ok-hex.ensures

@@ -1,13 +1,8 @@
+use Rattle.plain.proofs.Boxes.{fit_found, fit_refused}
 use Rattle.plain.proofs.answers.told_fit.Goals as goal
 
-pub returns-in-AllFit : goal.returns-in-AllFit
-returns-in-AllFit c = rw c.in-AllFit.is c.not_found.ensures
+pub returns-in-Ok : goal.returns-in-Ok
+returns-in-Ok c = rw (c.in-Ok.is, fit_found c.in-Ok.found) c.found_of.ensures
 
-pub returns-in-Leaves : goal.returns-in-Leaves
-returns-in-Leaves c = rw c.in-Leaves.is c.found_at.ensures
-
-pub returns-in-BadText : goal.returns-in-BadText
-returns-in-BadText c = rw c.in-BadText.is c.not_found-in-BadText.ensures
-
-pub returns-in-TooBig : goal.returns-in-TooBig
-returns-in-TooBig c = rw c.in-TooBig.is c.not_found-in-TooBig.ensures
+pub returns-in-Err : goal.returns-in-Err
+returns-in-Err c = rw (c.in-Err.is, fit_refused c.in-Err.why, ← c.from.ensures, ← c.number.ensures) c.not_found.ensures

@@ -8,10 +8,10 @@ pub judge_admitted-verdict-requires : goal.judge_admitted-verdict-requires
 judge_admitted-verdict-requires c = let a = c.args in let p = c.requires in (text-fits a.script a.text.now a.marks.now p.0).1
 
 pub apply_frame-requires : goal.apply_frame-requires
-apply_frame-requires c = let a = c.args in let p = c.requires in let k = apply_asked a.script a.text.now a.marks.now p.0 a.edit _ a.payload.now a.first.now a.second.now c.in_order-ordered.ensures _ c.judge_admitted-verdict.ensures c.in-Fine.is in (p.0, p.1, k.0, k.1)
+apply_frame-requires c = let a = c.args in let p = c.requires in let k = apply_asked a.script a.text.now a.marks.now p.0 a.edit _ a.payload.now a.first.now a.second.now c.in_order-ordered.ensures _ c.judge_admitted-verdict.ensures c.in-Ok.is in (p.0, p.1, k.0, k.1)
 
-pub returns-in-Bad : goal.returns-in-Bad
-returns-in-Bad c = let a = c.args in let p = c.requires in bad_leaves a.script a.text.now a.marks.now p.0 a.edit _ a.payload.now a.first.now a.second.now c.in_order-ordered.ensures _ c.judge_admitted-verdict.ensures _ c.in-Bad.is _ _ _ c.refuse.ensures
+pub returns-in-Err : goal.returns-in-Err
+returns-in-Err c = let a = c.args in let p = c.requires in bad_leaves a.script a.text.now a.marks.now p.0 a.edit _ a.payload.now a.first.now a.second.now c.in_order-ordered.ensures _ c.judge_admitted-verdict.ensures _ c.in-Err.is _ _ _ c.refuse.ensures
 
-pub returns-in-Fine : goal.returns-in-Fine
-returns-in-Fine c = let a = c.args in let p = c.requires in fine_leaves a.script a.text.now a.marks.now p.0 a.edit _ a.payload.now a.first.now a.second.now c.in_order-ordered.ensures c.judge_admitted-verdict.result c.judge_admitted-verdict.ensures _ _ c.apply_frame.ensures
+pub returns-in-Ok : goal.returns-in-Ok
+returns-in-Ok c = let a = c.args in let p = c.requires in fine_leaves a.script a.text.now a.marks.now p.0 a.edit _ a.payload.now a.first.now a.second.now c.in_order-ordered.ensures c.judge_admitted-verdict.result c.judge_admitted-verdict.ensures _ _ c.apply_frame.ensures
