@@ -29,10 +29,10 @@ use fit::box_fit;
 use framed::apply_frame;
 use merge::merge_overlapping;
 use plain::{
-    Bounds, Change, Count, Cover, EditLine, Found, Numbers, Said,
-    SelFound, Viewed, found_at, found_sel, meant_edit, meant_selection, no_bounds, no_cover,
-    no_sel, not_changed, not_counted, not_found, told_answer, told_bounds, told_clamped,
-    told_decoded, told_encoded, told_ends, told_fit, told_span,
+    Bounds, Change, Count, Cover, EditLine, Found, Numbers, Said, SelFound, Viewed, found_at,
+    found_sel, meant_edit, meant_selection, no_bounds, no_cover, no_sel, not_changed, not_counted,
+    not_found, told_answer, told_bounds, told_clamped, told_decoded, told_encoded, told_ends,
+    told_fit, told_span,
 };
 use rows::clamp_position;
 use script::run_script;
@@ -40,8 +40,8 @@ use select::Sel;
 use shift::{shift_position, shift_sel};
 use text::{Position, Row};
 use told::{
-    told_cursor, told_edit_read, told_mark_read, told_ran, told_sel_shifted,
-    told_shifted, told_undoable,
+    told_cursor, told_edit_read, told_mark_read, told_ran, told_sel_shifted, told_shifted,
+    told_undoable,
 };
 use view::{set_cursor, undoable};
 use writer::{write_edit, write_mark, write_text};
@@ -221,9 +221,7 @@ pub fn winchbarn_shift_position(
 {
     let meant = meant_edit(edit);
     match meant {
-        Some(e) => {
-            told_shifted(shift_position(text, view, e, payload, first, second, pos))
-        }
+        Some(e) => { told_shifted(shift_position(text, view, e, payload, first, second, pos)) }
         None => not_found(10),
     }
 }
@@ -241,9 +239,7 @@ pub fn winchbarn_shift_sel(
 {
     let meant = meant_edit(edit);
     match meant {
-        Some(e) => {
-            told_sel_shifted(shift_sel(text, view, e, payload, first, second, sel))
-        }
+        Some(e) => { told_sel_shifted(shift_sel(text, view, e, payload, first, second, sel)) }
         None => no_sel(10),
     }
 }
