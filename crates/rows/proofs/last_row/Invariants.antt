@@ -1,12 +1,9 @@
 use mathlib.Core.Path.{◌≡◌}
-use Prim.Native.Nat.{◌≤◌, ◌+◌, ◌-◌}
-use lib.ListN.{length, drop}
+use Prim.Native.Nat.{◌≤◌, ◌+◌}
+use lib.ListN.{drop}
 use Rattle.text.specs.Rows.{last_row}
 use Rattle.text.specs.Text.{is_lf}
 use Rattle.rows.proofs.last_row.Given as goal
 
-abbrev pub invariant-loop-i : goal.invariant-loop-i
-invariant-loop-i l = (l.i ≤ length l.text) × (l.count ≤ l.i) × (l.count + last_row is_lf (drop l.i l.text) ≡ last_row is_lf l.text)
-
-abbrev pub decreases-loop-i : goal.decreases-loop-i
-decreases-loop-i l = length l.text - l.i
+abbrev pub invariant-loop-c : goal.invariant-loop-c
+invariant-loop-c l = (l.count ≤ l.c-index) × (l.count + last_row is_lf (drop l.c-index l.text) ≡ last_row is_lf l.text)
