@@ -12,17 +12,12 @@ use text::{CharOffset, Clamped, Col, LF, Place, Position, Row, Span, is_text};
 // How many characters `line_to_char` passes over at once: `last_row` has no early exit, so it is vectorised.
 const BLOCK: usize = 64;
 
+// A sum is vectorised, which `filter` and `count` are not.
 pub fn last_row(text: &[u32]) -> Row
     requires { length text.now ≤ text_limit }
     ensures { result.0 ≡ last_row is_lf text.now }
 {
-    let mut count = 0;
-    for c in text {
-        if *c == LF {
-            count += 1;
-        }
-    }
-    Row(count)
+    Row(text.iter().map(|c| u32::from(*c == LF)).sum())
 }
 
 pub fn row_count(text: &[u32]) -> u32

@@ -1,18 +1,19 @@
 -- How a definition over rows goes on at index i of a scan forwards: by what stands at i, and at the end.
 use mathlib.Core.Path.{◌≡◌, refl, sym, ap, ◌∙◌}
-use mathlib.Core.Bool.{Bool, ◌&&◌, and_assoc, and-true}
-use mathlib.Core.List.{List, []}
+use mathlib.Core.Bool.{Bool, true, false, cond, ◌&&◌, and_assoc, and-true}
+use mathlib.Core.List.{List, [], ◌∷◌}
 use Prim.Native.Nat.{ℕ, zero, suc, ◌+◌, ◌-◌, ◌*◌, ◌≤◌, ◌<◌}
-use native.Mathlib.Numerals.{add-one, sub-one}
+use native.Mathlib.Numerals.{add-one, one-add, sub-one}
 use borrow.Author.Tests.{eq-eqb, ne_eqb}
 use native.Mathlib.Omega.{arith}
 use lib.ListN.{length, take, drop, get_or, length-take, length-drop, take-append-drop, drop_of_length-le}
 use lib.Seq.{drop-drop}
-use Rattle.std.specs.List.{AllWithin, HoldsAt}
+use Rattle.std.specs.List.{AllWithin, HoldsAt, count_by}
 use Rattle.std.specs.Option.{MatchOption, unwrap_or}
 use Rattle.std.specs.declared.option.Option.{Option}
 use Rattle.std.specs.Simd.{first_chunks}
 use Rattle.std.proofs.lemmas.Iterator.{index_from_first}
+use Rattle.std.proofs.lemmas.List.Recursion.{is_count_by}
 use Rattle.promise.proofs.Lists.{next}
 use Rattle.text.specs.Rows.{last_row, row_len, row_start}
 use Rattle.text.specs.Text.{is_lf, all}
@@ -56,6 +57,14 @@ module _ (s : List ℕ) (i : ℕ) (h : length s ≤ i) where
   pub all-at-end : (f : ℕ → Bool) (so_far : Bool) → (so_far && all f (drop i s)) ≡ all f s → so_far ≡ all f s
   unfolding all
   all-at-end f so_far inv = rw (drop_of_length-le s h, and-true) at inv
+
+-- the number of the last row counts the LFs
+pub last_count : (t : List ℕ) → last_row is_lf t ≡ count_by is_lf t
+last_count = is_count_by (last_row is_lf) is_lf (last_none is_lf) (λ x t. go x t (is_lf x) refl)
+  where
+    go : (x : ℕ) (t : List ℕ) (b : Bool) → is_lf x ≡ b → last_row is_lf (x ∷ t) ≡ cond b (1 + last_row is_lf t) (last_row is_lf t)
+    go x t true e = last_lf is_lf x t e ∙ sym (one-add (last_row is_lf t))
+    go x t false e = last_other is_lf x t e
 
 -- a search for the first LF: the row is as long as what stands before it, or as the text
 pub run_found : (t : List ℕ) (r : Option ℕ) → MatchOption r (AllWithin (λ x. x ≡ 10 → ⊥) t 0 (length t)) (λ i. (i < length t) × HoldsAt (λ x. x ≡ 10) t i × AllWithin (λ x. x ≡ 10 → ⊥) t 0 i)
