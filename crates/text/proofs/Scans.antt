@@ -72,14 +72,15 @@ pub run_found : (t : List ℕ) (r : Option ℕ) → MatchOption r (AllWithin (λ
 run_found t r h =
     sym (index_from_first (λ s. row_len is_lf s 0) (λ x. x ≡ 10) (λ x. x ≡ 10 → ⊥) (len_none is_lf 0) (λ x s e. len_lf is_lf x s (eq-eqb x 10 e)) (λ x s e. len_other is_lf x s (ne_eqb x 10 e) ∙ sym (add-one (row_len is_lf s 0))) t r h)
 
--- a block that ends k rows, all above row r, is passed over whole
-block-at : (n m i : ℕ) (s : List ℕ) → i < m → get_or (first_chunks n m s) i [] ≡ take n (drop (i * n) s)
+-- the i-th of a list's blocks
+pub block-at : (n m i : ℕ) (s : List ℕ) → i < m → get_or (first_chunks n m s) i [] ≡ take n (drop (i * n) s)
 block-at n zero i s h = absurd (omega arith)
 block-at n (suc m) zero s h = let z : 0 * n ≡ 0 = omega arith in rw z
 block-at n (suc m) (suc i) s h =
     let e : n + i * n ≡ suc i * n = omega arith in
     block-at n m i (drop n s) (omega arith) ∙ rw (drop-drop, e)
 
+-- a block that ends k rows, all above row r, is passed over whole
 pub start-past-block : (s : List ℕ) (n m i a r k : ℕ) → a ≡ i * n → i < m → a + n ≤ length s → k ≡ last_row is_lf (get_or (first_chunks n m s) i []) → k < r
     → row_start is_lf (drop a s) r ≡ n + row_start is_lf (drop (a + n) s) (r - k)
 start-past-block s n m i a r k p q h e l =
