@@ -5,10 +5,15 @@ use mathlib.Core.List.{List, [], ◌∷◌}
 use mathlib.Core.Logic.{⊎_elim}
 use Prim.Native.Nat.{ℕ, zero, suc, ◌-◌, ◌%◌, ◌≤◌, ◌<◌}
 use native.Mathlib.Nat.{le_of_suc-le-suc, not-suc-le-zero}
+use native.Mathlib.Decide.{dec_lt}
 use native.Mathlib.Omega.{arith}
-use borrow.Author.Tests.{le-leb, lt-leb, leb-true, ltb-true}
+use borrow.Author.Tests.{le-leb, lt-leb, leb-true, leb-false, ltb-true}
 use lib.Dec.{leb, ltb}
 use lib.ListN.{length, get_or}
+use Rattle.std.specs.List.{AllWithin}
+use Rattle.std.specs.List.Sorted.{IsPartitionedBy, IsPartitionPoint}
+use Rattle.std.proofs.lemmas.List.{get_or_default}
+use Rattle.std.proofs.lemmas.List.Sorted.{IsPartitionedBy-leb}
 use Rattle.promise.proofs.Bools.{both}
 use Rattle.utf8.specs.Rfc3629.{Range}
 use Rattle.utf8.proofs.Numbers.{at_most}
@@ -86,6 +91,29 @@ upto-length v (x ∷ s) = go (leb x v) (upto-length v s)
     go : (b : Bool) → count_up_to v s ≤ length s → cond b (suc (count_up_to v s)) (count_up_to v s) ≤ suc (length s)
     go true i = omega arith
     go false i = omega arith
+
+-- an entry is no less than one before it
+entries_ascend : (t : List ℕ) → ascends t ≡ true → (i j d : ℕ) → i ≤ j → j < length t → get_or t i d ≤ get_or t j d
+entries_ascend [] e i j d h l = absurd (not-suc-le-zero l)
+entries_ascend (x ∷ s) e zero zero d h l = omega arith
+entries_ascend (x ∷ s) e zero (suc j) d h l = omega (arith, first_least x j s e (le_of_suc-le-suc l), get_or_default s j d 0 (le_of_suc-le-suc l))
+entries_ascend (x ∷ s) e (suc i) zero d h l = absurd (omega arith)
+entries_ascend (x ∷ s) e (suc i) (suc j) d h l = entries_ascend s (tail_ascends x s e) i j d (omega arith) (le_of_suc-le-suc l)
+
+pub parted : (v : ℕ) (t : List ℕ) → ascends t ≡ true → IsPartitionedBy (λ y. leb y v) t
+parted v t e = IsPartitionedBy-leb (λ y. y) t v (entries_ascend t e)
+
+-- where those at most v end, so many are counted
+pub point_counts : (v k : ℕ) (t : List ℕ) → ascends t ≡ true → k ≤ length t → IsPartitionPoint (λ y. leb y v ≡ true) (λ y. leb y v ≡ false) t k → k ≡ count_up_to v t
+point_counts v k t e l p =
+    let low : k ≤ count_up_to v t = below k l p.0 in
+    let high : count_up_to v t ≤ k =
+    elim (dec_lt k (length t)) [ yes h ↦ over-entry v k t e h (leb-false (get_or t k 0) v (p.1 k 0 (omega arith) h)) | no h ↦ omega (arith, upto-length v t) ] in
+    omega arith
+  where
+    below : (k : ℕ) → k ≤ length t → AllWithin (λ y. leb y v ≡ true) t 0 k → k ≤ count_up_to v t
+    below zero l q = omega arith
+    below (suc m) l q = upto-entry v m t e l (leb-true (get_or t m 0) v (q m 0 (omega arith) (omega arith)))
 
 -- two entries more
 odd-two : (n : ℕ) → odd (suc (suc n)) ≡ odd n

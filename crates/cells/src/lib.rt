@@ -51,27 +51,12 @@ pub fn wide_table() -> [u32; 242]
     WIDE
 }
 
-// How many numbers of an ascending table are at most the value. `size` of them, from `base` on, are still in doubt.
+// How many numbers of an ascending table are at most the value.
 fn count_upto(table: &[u32], value: u32) -> usize
     requires { ascends table.now ≡ true }
     ensures { result ≡ count_up_to value table.now }
 {
-    let mut base = 0;
-    let mut size = table.len();
-    while 1 < size {
-        let half = size / 2;
-        let mid = base + half;
-        if table[mid] <= value {
-            base = mid;
-            size -= half;
-        } else {
-            size -= half;
-        }
-    }
-    if size == 0 {
-        return base;
-    }
-    if table[base] <= value { base + 1 } else { base }
+    table.partition_point(|edge| *edge <= value)
 }
 
 // Whether so many numbers of an ascending table are at most the value; false for none or all of them.

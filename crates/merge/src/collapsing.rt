@@ -27,17 +27,14 @@ pub fn collapse(sorted: &[u32], n: usize, out: &mut [u32]) -> usize
     }
     let mut last = sel_at(sorted, 0);
     let mut count = 0;
-    let mut i = 1;
-    while i < n {
+    for i in 1..n {
         let next = sel_at(sorted, i);
         if last.overlaps(next) {
             last = merge_two(last, next);
-            i += 1;
         } else {
             put_sel(out, count, last);
             last = next;
             count += 1;
-            i += 1;
         }
     }
     put_sel(out, count, last);

@@ -13,19 +13,12 @@ use utf8::BadText;
 // How many characters `line_to_char` passes over at once: `last_row` has no early exit, so it is vectorised.
 const BLOCK: usize = 64;
 
+// A sum is vectorised, which `filter` and `count` are not.
 pub fn last_row(text: &[u32]) -> Row
     requires { length text.now ≤ text_limit }
     ensures { result.0 ≡ last_row is_lf text.now }
 {
-    let mut count = 0;
-    let mut i = 0;
-    while i < text.len() {
-        if text[i] == LF {
-            count += 1;
-        }
-        i += 1;
-    }
-    Row(count)
+    Row(text.iter().map(|c| u32::from(*c == LF)).sum())
 }
 
 pub fn row_count(text: &[u32]) -> u32
@@ -40,17 +33,15 @@ fn scan_to_row(text: &[u32], row: Row) -> CharOffset
     ensures { result.0 ≡ row_start is_lf text.now row.0 }
 {
     let mut above = row.0;
-    let mut i = 0;
-    while i < text.len() {
+    for (i, c) in text.iter().enumerate() {
         if above == 0 {
             return CharOffset(i);
         }
-        if text[i] == LF {
+        if *c == LF {
             above -= 1;
         }
-        i += 1;
     }
-    CharOffset(i)
+    CharOffset(text.len())
 }
 
 // Where a row starts; past the last row, where the text ends. Blocks that the row starts behind are passed over whole.
@@ -59,8 +50,8 @@ pub fn line_to_char(text: &[u32], row: Row) -> CharOffset
 {
     let mut above = row.0;
     let mut at = 0;
-    while BLOCK <= text.len() - at {
-        let ended = last_row(&text[at..at + BLOCK]).0;
+    for block in text.as_chunks::<BLOCK>().0 {
+        let ended = last_row(block).0;
         if above <= ended {
             break;
         }
@@ -75,15 +66,8 @@ fn run_len(text: &[u32], start: CharOffset) -> usize
     requires { start.0 ≤ length text.now }
     ensures { result ≡ row_len is_lf (drop start.0 text.now) 0 }
 {
-    let first = start.0;
-    let mut i = first;
-    while i < text.len() {
-        if text[i] == LF {
-            return i - first;
-        }
-        i += 1;
-    }
-    i - first
+    let rest = &text[start.0..];
+    rest.iter().position(|c| *c == LF).unwrap_or(rest.len())
 }
 
 // The length of a row; 0 past the last row.
@@ -137,8 +121,7 @@ pub fn clamp(text: &[u32], pos: Position) -> Position
     requires { length text.now ≤ text_limit }
     ensures { result ≡ clamp is_lf text.now pos }
 {
-    let found = locate(text, pos);
-    found.pos
+    locate(text, pos).pos
 }
 
 // Whether clamping leaves the position as it is.
@@ -146,8 +129,7 @@ pub fn contains(text: &[u32], pos: Position) -> bool
     requires { length text.now ≤ text_limit }
     ensures { result ≡ in_text is_lf text.now pos }
 {
-    let inside = clamp(text, pos);
-    (inside.row.0 == pos.row.0) & (inside.col.0 == pos.col.0)
+    clamp(text, pos) == pos
 }
 
 // The same for any buffer and used length.

@@ -1,5 +1,5 @@
 -- The columns that a selection covers of a row.
-use mathlib.Core.Bool.{Bool, true, false, cond, ◌&&◌, and-true, and-false}
+use mathlib.Core.Bool.{Bool, true, false, cond, ◌&&◌, ◌||◌, and-true, and-false}
 use mathlib.Core.Logic.{◌⊎◌, inl, inr, ⊎_elim}
 use mathlib.Core.Path.{◌≡◌, refl, ◌∙◌}
 use Prim.Native.Nat.{ℕ, ◌≤◌, ◌<◌}
@@ -7,9 +7,11 @@ use native.Mathlib.Decide.{dec_lt}
 use native.Mathlib.Omega.{arith}
 use borrow.Author.Tests.{ltb-true, ltb-false, lt-ltb, le-ltb, le-leb, lt-leb, eq-eqb, ne_eqb}
 use lib.Dec.{ltb, eqb, leb}
+use Rattle.std.specs.Ordering.{is_lt, nat_cmp}
 use Rattle.promise.proofs.Bools.{either, neither}
 use Rattle.text.specs.declared.Position.{Position}
 use Rattle.text.specs.Rows.{at, upto}
+use Rattle.text.proofs.Order.{is_lt-ltb}
 use Rattle.select.specs.Answers.{Columns, none, between, from, has}
 use Rattle.select.specs.Selections.{outside, char_span, line_span, block_span}
 
@@ -19,6 +21,10 @@ module _ (top bottom row : ℕ) where
 
   row_inside : outside top bottom row ≡ false → (top ≤ row) × (row ≤ bottom)
   row_inside e = let h = neither (ltb row top) (ltb bottom row) e in (ltb-false _ _ h.0, ltb-false _ _ h.1)
+
+-- the test as it is made of rows
+pub outside_told : (top bottom row : ℕ) (a b r : Bool) → a ≡ is_lt (nat_cmp row top) → b ≡ is_lt (nat_cmp bottom row) → (a || b) ≡ r → outside top bottom row ≡ r
+outside_told top bottom row a b r ea eb e = rw (ea, eb, is_lt-ltb row top, is_lt-ltb bottom row) at e
 
 module _ (row col : ℕ) where
   row_before : (p : Position) → row < p.row.0 → upto p (at row col) ≡ false

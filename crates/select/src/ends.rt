@@ -24,23 +24,19 @@ impl Sel {
     pub fn is_caret(self) -> bool
         ensures { result ≡ is_caret self }
     {
-        let anchor = self.anchor;
-        let head = self.head;
-        (anchor.row.0 == head.row.0) & (anchor.col.0 == head.col.0)
+        self.anchor == self.head
     }
 
     pub fn start(self) -> Position
         ensures { result ≡ start self }
     {
-        let anchor = self.anchor;
-        anchor.min(self.head)
+        self.anchor.min(self.head)
     }
 
     pub fn end(self) -> Position
         ensures { result ≡ end self }
     {
-        let anchor = self.anchor;
-        anchor.max(self.head)
+        self.anchor.max(self.head)
     }
 
     // Whether the two cover a common position.

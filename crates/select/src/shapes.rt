@@ -10,23 +10,18 @@ use text::{Col, Position, Row};
 fn first_col(start: Position, row: Row) -> Col
     ensures { result.0 ≡ cond (eqb row.0 start.row.0) start.col.0 0 }
 {
-    if row.0 == start.row.0 {
-        start.col
-    } else {
-        Col(0)
-    }
+    if row == start.row { start.col } else { Col(0) }
 }
 
 fn char_span(start: Position, end: Position, row: Row) -> RowSpan
     ensures { paper_row_span result ≡ char_span start end row.0 }
 {
-    if (row.0 < start.row.0) | (end.row.0 < row.0) {
+    if (row < start.row) | (end.row < row) {
         return RowSpan::Outside;
     }
     let lo = first_col(start, row);
-    if row.0 == end.row.0 {
-        let hi = end.col;
-        RowSpan::Closed { lo, hi }
+    if row == end.row {
+        RowSpan::Closed { lo, hi: end.col }
     } else {
         RowSpan::Open { lo }
     }
@@ -35,7 +30,7 @@ fn char_span(start: Position, end: Position, row: Row) -> RowSpan
 fn line_span(top: Row, bottom: Row, row: Row) -> RowSpan
     ensures { paper_row_span result ≡ line_span top.0 bottom.0 row.0 }
 {
-    if (row.0 < top.0) | (bottom.0 < row.0) {
+    if (row < top) | (bottom < row) {
         RowSpan::Outside
     } else {
         RowSpan::Open { lo: Col(0) }
@@ -45,7 +40,7 @@ fn line_span(top: Row, bottom: Row, row: Row) -> RowSpan
 fn block_span(top: Row, bottom: Row, left: Col, right: Col, row: Row) -> RowSpan
     ensures { paper_row_span result ≡ block_span top.0 bottom.0 left.0 right.0 row.0 }
 {
-    if (row.0 < top.0) | (bottom.0 < row.0) {
+    if (row < top) | (bottom < row) {
         RowSpan::Outside
     } else {
         RowSpan::Closed {
@@ -88,13 +83,10 @@ impl Selection {
     {
         match self {
             Selection::Char { anchor, .. } => Selection::Char { anchor, head: pos },
-            Selection::Line { anchor_row, .. } => {
-                let head_row = pos.row;
-                Selection::Line {
-                    anchor_row,
-                    head_row,
-                }
-            }
+            Selection::Line { anchor_row, .. } => Selection::Line {
+                anchor_row,
+                head_row: pos.row,
+            },
             Selection::Block { anchor, .. } => Selection::Block { anchor, head: pos },
         }
     }
@@ -127,8 +119,8 @@ impl Selection {
                 let start = anchor.min(head);
                 let end = anchor.max(head);
                 RowBounds {
-                    top: Row(start.row.0),
-                    bottom: Row(end.row.0),
+                    top: start.row,
+                    bottom: end.row,
                 }
             }
             Selection::Line {

@@ -15,11 +15,7 @@ pub fn shift_up(tail: &mut [u32], count: usize, by: usize)
     requires { by + count ≤ length tail.old }
     ensures { tail.new ≡ paste tail.old by tail.old count }
 {
-    let mut i = count;
-    while 0 < i {
-        i -= 1;
-        tail[by + i] = tail[i];
-    }
+    tail.copy_within(0..count, by);
 }
 
 // Moves the `count` places from `by` on down to the front.
@@ -27,11 +23,7 @@ pub fn shift_down(tail: &mut [u32], count: usize, by: usize)
     requires { by + count ≤ length tail.old }
     ensures { tail.new ≡ take count (drop by tail.old) ++ drop count tail.old }
 {
-    let mut i = 0;
-    while i < count {
-        tail[i] = tail[by + i];
-        i += 1;
-    }
+    tail.copy_within(by..by + count, 0);
 }
 
 // Copies `from` to the places from `at` on.
@@ -39,24 +31,14 @@ pub fn copy_in(to: &mut [u32], at: CharOffset, from: &[u32])
     requires { at.0 + length from.now ≤ length to.old }
     ensures { to.new ≡ paste to.old at.0 from.now (length from.now) }
 {
-    let start = at.0;
-    let mut i = 0;
-    while i < from.len() {
-        to[start + i] = from[i];
-        i += 1;
-    }
+    to[at.0..at.0 + from.len()].copy_from_slice(from);
 }
 
 pub fn fill(text: &mut [u32], at: CharOffset, count: usize, value: u32)
     requires { at.0 + count ≤ length text.old }
     ensures { text.new ≡ paste text.old at.0 (replicate count value) count }
 {
-    let start = at.0;
-    let mut i = 0;
-    while i < count {
-        text[start + i] = value;
-        i += 1;
-    }
+    text[at.0..at.0 + count].fill(value);
 }
 
 // Puts so many spaces in at `at`, and the payload behind them.

@@ -7,9 +7,20 @@ use native.Mathlib.Nat.{eq-or-lt_of_le}
 use native.Mathlib.Omega.{arith}
 use borrow.Author.Tests.{ltb-true, ltb-false, leb-true, leb-false, eqb-true, eqb-false, lt-ltb, le-leb, eq-eqb}
 use lib.Dec.{ltb, eqb, leb}
+use Rattle.std.specs.Ordering.{is_lt, nat_cmp}
+use Rattle.std.specs.declared.cmp.Ordering.TheVariants.{Less, Equal, Greater}
 use Rattle.promise.proofs.Bools.{clash, unless}
 use Rattle.text.specs.declared.Position.{Position}
 use Rattle.text.specs.Rows.{at, upto, earlier, later}
+
+-- rows and columns compare as their numbers do
+pub is_lt-ltb : (a b : ℕ) → is_lt (nat_cmp a b) ≡ ltb a b
+is_lt-ltb a b = go (ltb a b) (eqb a b)
+  where
+    go : (p q : Bool) → is_lt (cond p Less (cond q Equal Greater)) ≡ p
+    go true q = refl
+    go false true = refl
+    go false false = refl
 
 -- what the test says, in numbers
 abbrev pub Upto : Position → Position → Type 0

@@ -17,10 +17,8 @@ pub fn all_admissible(text: &[u32]) -> bool
     ensures { result ≡ all_admissible text.now }
 {
     let mut all = true;
-    let mut i = 0;
-    while i < text.len() {
-        all = all & is_admissible(text[i]);
-        i += 1;
+    for x in text {
+        all &= is_admissible(*x);
     }
     all
 }

@@ -1,12 +1,15 @@
-use native.Mathlib.Omega.{arith}
-use Rattle.hexline.proofs.Pairs.{pairs_again, pairs_bad, pairs_all}
+use mathlib.Core.Path.{◌∙◌}
+use borrow.Author.Rules.{rules}
+use borrow.Author.Tests.{tests}
+use Rattle.std.proofs.lemmas.Iterator.{YieldsList-from_slice}
+use Rattle.std.proofs.lemmas.Iterator.Search.{all_from_yields_List}
+use Rattle.hexline.specs.Digits.{is_digit}
+use Rattle.hexline.proofs.Pairs.{paired_even, paired_odd}
 use Rattle.hexline.proofs.is_paired.Goals as goal
 
-pub returns-then-not-is_digit : goal.returns-then-not-is_digit
-returns-then-not-is_digit c = let l = c.loop-i in pairs_bad _ l.i l.invariant.1 _ _ c.loop-i-test.true c.is_digit.ensures c.is_digit-in-loop-i.ensures c.if-not-is_digit.true-raw
+pub returns-then-line-eq0 : goal.returns-then-line-eq0
+returns-then-line-eq0 c = let l = c.args.line.now in
+    all_from_yields_List is_digit _ _ c.all.result c.all.ensures.ran (YieldsList-from_slice l c.iter.ensures.rest) (λ x b q k. search (rules, tests)) ∙ paired_even l c.if-line-eq0.true
 
-pub loop-i-preserved : goal.loop-i-preserved
-loop-i-preserved c = let l = c.loop-i in (omega arith, pairs_again _ l.i l.invariant.1 _ _ c.loop-i-test.true c.is_digit.ensures c.is_digit-in-loop-i.ensures c.if-not-is_digit.false-raw)
-
-pub returns : goal.returns
-returns c = let l = c.loop-i in pairs_all _ l.i l.invariant.1 l.invariant.0 c.loop-i-test.false
+pub returns-else-line-eq0 : goal.returns-else-line-eq0
+returns-else-line-eq0 c = paired_odd c.args.line.now c.if-line-eq0.false

@@ -6,11 +6,8 @@ use Rattle.text.proofs.Laws.{start_first}
 use Rattle.text.proofs.Scans.{start-at-lf, start-at-other, start-at-end}
 use Rattle.text.specs.Rows.{row_start}
 use Rattle.text.specs.Text.{is_lf}
-use Rattle.rows.proofs.scan_to_row.Goals.{then-text-i-eq-LF, else-text-i-eq-LF}
+use Rattle.rows.proofs.scan_to_row.Goals.{then-c-eq-LF, else-c-eq-LF}
 use Rattle.rows.proofs.scan_to_row.Goals as goal
-
-pub loop-i-init : goal.loop-i-init
-loop-i-init c = omega arith
 
 pub returns-then-above-eq0 : goal.returns-then-above-eq0
 returns-then-above-eq0 c = let l = c.loop-i in let t = drop l.i c.args.text.now in
@@ -19,9 +16,9 @@ returns-then-above-eq0 c = let l = c.loop-i in let t = drop l.i c.args.text.now 
 pub loop-i-preserved : goal.loop-i-preserved
 loop-i-preserved c = let s = c.args.text.now in let l = c.loop-i in
     let h = c.loop-i-test.true in let z = c.if-above-eq0.false in
-    elim c.if-text-i-eq-LF.branch [
-      | then-text-i-eq-LF w ↦ omega (arith, start-at-lf s l.i h l.above z w.if-text-i-eq-LF.true, ap (row_start is_lf (drop (l.i + 1) s)) w.above-is)
-      | else-text-i-eq-LF w ↦ omega (arith, start-at-other s l.i h l.above z w.if-text-i-eq-LF.false, ap (row_start is_lf (drop (l.i + 1) s)) w.above-is)
+    elim c.if-c-eq-LF.branch [
+      | then-c-eq-LF w ↦ omega (arith, start-at-lf s l.i h l.above z w.if-c-eq-LF.true, ap (row_start is_lf (drop (l.i + 1) s)) w.above-is)
+      | else-c-eq-LF w ↦ omega (arith, start-at-other s l.i h l.above z w.if-c-eq-LF.false, ap (row_start is_lf (drop (l.i + 1) s)) w.above-is)
     ]
 
 pub returns : goal.returns

@@ -1,15 +1,16 @@
-use borrow.Author.Tests.{eq-eqb, ne_eqb}
+use mathlib.Core.Path.{sym, ◌∙◌}
 use Rattle.select.specs.Selections.{char_span}
+use Rattle.select.proofs.Spans.{outside_told}
 use Rattle.select.proofs.shapes.char_span.Goals as goal
 
-pub returns-then-row-start : goal.returns-then-row-start
+pub returns-then-lt : goal.returns-then-lt
 unfolding char_span
-returns-then-row-start c = rw c.if-row-start.true
+returns-then-lt c = let a = c.args in rw (outside_told a.start.row.0 a.end.row.0 a.row.0 _ _ _ c.lt.ensures c.lt-2.ensures c.if-lt.true)
 
-pub returns-then-row-end : goal.returns-then-row-end
+pub returns-then-eq : goal.returns-then-eq
 unfolding char_span
-returns-then-row-end c = rw (c.if-row-start.false, c.first_col-lo.ensures, eq-eqb _ _ c.if-row-end.true)
+returns-then-eq c = let a = c.args in rw (outside_told a.start.row.0 a.end.row.0 a.row.0 _ _ _ c.lt.ensures c.lt-2.ensures c.if-lt.false, c.first_col-lo.ensures, sym c.eq.ensures ∙ c.if-eq.true)
 
-pub returns-else-row-end : goal.returns-else-row-end
+pub returns-else-eq : goal.returns-else-eq
 unfolding char_span
-returns-else-row-end c = rw (c.if-row-start.false, c.first_col-lo.ensures, ne_eqb _ _ c.if-row-end.false)
+returns-else-eq c = let a = c.args in rw (outside_told a.start.row.0 a.end.row.0 a.row.0 _ _ _ c.lt.ensures c.lt-2.ensures c.if-lt.false, c.first_col-lo.ensures, sym c.eq.ensures ∙ c.if-eq.false)
