@@ -13,14 +13,35 @@ const FILL: u32 = 0xA5A5A5A5;
 // A prime below 2^32.
 const MODULUS: u64 = 4_294_967_291;
 
-fn checksum(text: &[u32], payload: &[u32], first: &[u32], second: &[u32]) -> u32 {
-    text.iter()
-        .chain(payload)
-        .chain(first)
-        .chain(second)
-        .fold(1, |sum: u32, x| {
-            ((u64::from(sum) * 65_599 + u64::from(*x)) % MODULUS) as u32
-        })
+// All that is lent to be written.
+#[derive(Drop)]
+pub(crate) struct Lent {
+    pub(crate) text: [u32; ROOM],
+    pub(crate) payload: [u32; ROOM],
+    pub(crate) first: [u32; ITEMS],
+    pub(crate) second: [u32; ITEMS],
+}
+
+impl Lent {
+    fn blank() -> Lent {
+        Lent {
+            text: [FILL; ROOM],
+            payload: [FILL; ROOM],
+            first: [FILL; ITEMS],
+            second: [FILL; ITEMS],
+        }
+    }
+
+    pub(crate) fn checksum(&self) -> u32 {
+        self.text
+            .iter()
+            .chain(&self.payload)
+            .chain(&self.first)
+            .chain(&self.second)
+            .fold(1, |sum: u32, x| {
+                ((u64::from(sum) * 65_599 + u64::from(*x)) % MODULUS) as u32
+            })
+    }
 }
 
 fn is_same_view(a: View, b: View) -> bool {
@@ -48,44 +69,45 @@ fn call(
     first: &[u32],
     second: &[u32],
 ) -> io::Result<()> {
-    let mut text = [FILL; ROOM];
-    let mut outpayload = [FILL; ROOM];
-    let mut outfirst = [FILL; ITEMS];
-    let mut outsecond = [FILL; ITEMS];
+    let mut lent = Lent::blank();
+    let mut view = trial.view;
     let [payload_room, first_room, second_room] = trial.rooms;
     let end = trial.text.length.min(ROOM);
-    trial.text.fill(&mut text[..end]);
-    let before = checksum(&text, &outpayload, &outfirst, &outsecond);
-    let mut view = trial.view;
+    trial.text.fill(&mut lent.text[..end]);
+    let before = lent.checksum();
     let answer = apply_edit_in(
-        &mut text[..end],
+        &mut lent.text[..end],
         &mut view,
         edit,
         payload,
         first,
         second,
-        &mut outpayload[..(payload_room as usize).min(ROOM)],
-        &mut outfirst[..(first_room as usize).min(ITEMS)],
-        &mut outsecond[..(second_room as usize).min(ITEMS)],
+        &mut lent.payload[..(payload_room as usize).min(ROOM)],
+        &mut lent.first[..(first_room as usize).min(ITEMS)],
+        &mut lent.second[..(second_room as usize).min(ITEMS)],
     );
-    let after = checksum(&text, &outpayload, &outfirst, &outsecond);
+    let is_same = before == lent.checksum() && is_same_view(trial.view, view);
+    print_answer(out, answer, view, &lent, is_same)
+}
+
+// `view` is the one that was lent.
+fn print_answer(
+    out: &impl Print,
+    answer: Answer,
+    view: View,
+    lent: &Lent,
+    is_same: bool,
+) -> io::Result<()> {
     match answer {
-        Answer::Refused(refusal) => {
-            let is_same = before == after && is_same_view(trial.view, view);
-            print_refused(out, refusal, is_same)
-        }
-        Answer::Done(applied) => {
-            let done = Done {
+        Answer::Refused(refusal) => print_refused(out, refusal, is_same),
+        Answer::Done(applied) => println!(out;
+            "{}",
+            Done {
                 view,
                 applied,
-                text: &text,
-                payload: &outpayload,
-                first: &outfirst,
-                second: &outsecond,
-                checksum: after,
-            };
-            println!(out; "{done}")
-        }
+                lent
+            }
+        ),
     }
 }
 

@@ -1,4 +1,5 @@
 // What a trial came to.
+use crate::calls::Lent;
 use edit::{Applied, Edit, Refusal, View};
 use std::{fmt, io};
 use trials::{Kind, Spot};
@@ -7,11 +8,11 @@ use view::CursorSet;
 // The most items that are printed.
 const SHORT: usize = 24;
 
-// A view behind what was done.
+// A view, behind what was done.
 #[derive(Clone, Copy)]
-struct Left(View);
+struct Shown(View);
 
-impl fmt::Display for Left {
+impl fmt::Display for Shown {
     fn fmt<W: fmt::Write>(&self, f: &mut fmt::Formatter<W>) -> fmt::Result {
         let View {
             used,
@@ -24,25 +25,20 @@ impl fmt::Display for Left {
 }
 
 // The first so many of the items, behind their name: nothing where there are none.
-#[derive(Clone, Copy)]
-struct Items<'a> {
-    name: &'a str,
-    items: &'a [u32],
+fn write_items<W: fmt::Write>(
+    f: &mut fmt::Formatter<W>,
+    name: &str,
+    items: &[u32],
     count: usize,
-}
-
-impl fmt::Display for Items<'_> {
-    fn fmt<W: fmt::Write>(&self, f: &mut fmt::Formatter<W>) -> fmt::Result {
-        if self.count == 0 {
-            return Ok(());
-        }
-        let name = self.name;
-        write!(f, " {name}")?;
-        for item in self.items.iter().take(self.count) {
-            write!(f, " {item:X}")?;
-        }
-        Ok(())
+) -> fmt::Result {
+    if count == 0 {
+        return Ok(());
     }
+    write!(f, " {name}")?;
+    for item in items.iter().take(count) {
+        write!(f, " {item:X}")?;
+    }
+    Ok(())
 }
 
 // An edit's own numbers.
@@ -65,38 +61,33 @@ impl fmt::Display for Numbers {
     }
 }
 
-// An edit that was made: the view that was lent, and all that was lent to be written.
+// An edit that was made, with the view that was lent.
 #[derive(Clone, Copy)]
 pub(crate) struct Done<'a> {
     pub(crate) view: View,
     pub(crate) applied: Applied,
-    pub(crate) text: &'a [u32],
-    pub(crate) payload: &'a [u32],
-    pub(crate) first: &'a [u32],
-    pub(crate) second: &'a [u32],
-    pub(crate) checksum: u32,
+    pub(crate) lent: &'a Lent,
 }
 
 impl Done<'_> {
-    fn items<'a>(name: &'a str, items: &'a [u32], count: usize) -> Items<'a> {
-        Items { name, items, count }
-    }
-
     // The text and the record, each where it is short.
     fn write_items<W: fmt::Write>(&self, f: &mut fmt::Formatter<W>) -> fmt::Result {
-        let Applied {
+        let Lent {
+            text,
             payload,
             first,
             second,
-            ..
-        } = self.applied;
-        if self.view.used <= SHORT {
-            write!(f, "{}", Done::items("text", self.text, self.view.used))?;
+        } = self.lent;
+        let used = self.view.used;
+        if used <= SHORT {
+            write_items(f, "text", text, used)?;
         }
-        if payload.saturating_add(first).saturating_add(second) <= SHORT {
-            write!(f, "{}", Done::items("payload", self.payload, payload))?;
-            write!(f, "{}", Done::items("first", self.first, first))?;
-            write!(f, "{}", Done::items("second", self.second, second))?;
+        let done = self.applied;
+        let recorded = done.payload.saturating_add(done.first);
+        if recorded.saturating_add(done.second) <= SHORT {
+            write_items(f, "payload", payload, done.payload)?;
+            write_items(f, "first", first, done.first)?;
+            write_items(f, "second", second, done.second)?;
         }
         Ok(())
     }
@@ -111,7 +102,7 @@ impl fmt::Display for Done<'_> {
             second,
             ..
         } = self.applied;
-        let view = Left(self.view);
+        let view = Shown(self.view);
         let kind = Kind::from(inverse) as u32;
         write!(
             f,
@@ -119,7 +110,7 @@ impl fmt::Display for Done<'_> {
         )?;
         self.write_items(f)?;
         let numbers = Numbers(inverse);
-        let sum = self.checksum;
+        let sum = self.lent.checksum();
         write!(f, " numbers {numbers} sum {sum}")
     }
 }
@@ -132,7 +123,7 @@ pub(crate) fn print_refused(out: &impl Print, refusal: Refusal, is_same: bool) -
 
 pub(crate) fn print_cursor(out: &impl Print, set: CursorSet) -> io::Result<()> {
     match set {
-        CursorSet::At(view) => println!(out; "set{}", Left(view)),
+        CursorSet::At(view) => println!(out; "set{}", Shown(view)),
         CursorSet::BadText => println!(out; "refused 1"),
     }
 }

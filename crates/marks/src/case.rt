@@ -85,7 +85,7 @@ fn selection_of(kind: u32, a: u32, b: u32, c: u32, d: u32) -> Selection {
 impl<'a> Case<'a> {
     pub(crate) fn of(numbers: &'a [u32]) -> Option<Case<'a>> {
         match numbers {
-            [1, shift @ ..] => Shift::of(shift).map(|shift| Case::Shift(shift)),
+            [1, shift @ ..] => Shift::of(shift).map(Case::Shift),
             [2, sels @ ..] => Some(Case::Merge(sels)),
             [3, kind, a, b, c, d, is_extended, e, f, row] => {
                 let selection = selection_of(*kind, *a, *b, *c, *d);

@@ -21,7 +21,7 @@ const NUMBERS: usize = 64;
 
 fn replay_line(out: &impl Print, line: &[u8]) -> io::Result<()> {
     let mut numbers = [0; NUMBERS];
-    match read_numbers(line, &mut numbers).and_then(|numbers| Case::of(numbers)) {
+    match read_numbers(line, &mut numbers).and_then(Case::of) {
         Some(case) => replay(out, case),
         None => println!(out; "malformed"),
     }

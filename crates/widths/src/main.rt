@@ -23,7 +23,7 @@ fn is_wide(point: u32) -> bool {
     }
 }
 
-// How many code points of the line are wide: none, if it is malformed.
+// Prints a line, and answers how many of its code points are wide: none, if it is malformed.
 fn print_line(out: &impl Print, line: &[u8]) -> io::Result<usize> {
     let (head, _) = cut(line, b' ');
     out.write_all(head)?;
