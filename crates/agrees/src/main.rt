@@ -3,13 +3,13 @@
 // A line that is empty or starts with # is passed over.
 #![tactic(auto)]
 
-use edit::{Answer, Applied, View};
+use edit::{Applied, Refusal, View};
 use framed::apply_frame;
 use lines::{is_passed_over, read_text};
 use reader::{FrameRead, read};
 use std::io;
 use text::{Col, Position, Row};
-use writer::{Written, write_edit, write_text};
+use writer::{write_edit, write_text};
 
 const TEXT_ROOM: usize = 4_096;
 
@@ -23,14 +23,14 @@ const START: Position = Position {
 };
 
 // The digits at the front of a line, none where they were refused.
-fn digits(written: Written, line: &[u8]) -> &[u8] {
+fn digits(written: Result<usize, Refusal>, line: &[u8]) -> &[u8] {
     match written {
-        Written::Digits(count) => line.get(..count).unwrap_or_default(),
-        Written::Refused(_) => &[],
+        Ok(count) => line.get(..count).unwrap_or_default(),
+        Err(_) => &[],
     }
 }
 
-fn print_line(out: &impl Print, written: Written, line: &[u8]) -> io::Result<()> {
+fn print_line(out: &impl Print, written: Result<usize, Refusal>, line: &[u8]) -> io::Result<()> {
     out.write_all(digits(written, line))?;
     println!(out)
 }
@@ -80,8 +80,8 @@ fn replay(
     let mut second = [0; LIST_ROOM];
     let answer = apply_frame(text, view, edit, &mut payload, &mut first, &mut second);
     match answer {
-        Answer::Refused(why) => println!(out; "refused {}", why.number()),
-        Answer::Done(done) => {
+        Err(why) => println!(out; "refused {}", why.number()),
+        Ok(done) => {
             let View {
                 used,
                 cursor: Position { row, col },
@@ -99,8 +99,8 @@ fn load(frame: &[u8], text: &mut [u32]) -> usize {
     let mut first = [0; 1];
     let mut second = [0; 1];
     match read(frame, text, &mut first, &mut second) {
-        FrameRead::Text(count) => count,
-        FrameRead::Mark(_) | FrameRead::Edit { .. } | FrameRead::Refused(_) => 0,
+        Ok(FrameRead::Text(count)) => count,
+        Ok(FrameRead::Mark(_) | FrameRead::Edit { .. }) | Err(_) => 0,
     }
 }
 

@@ -9,23 +9,22 @@ use Rattle.edit.specs.declared.MotionKind.{MotionKind}
 use Rattle.edit.specs.declared.Edit.{Edit}
 use Rattle.edit.specs.declared.Edit.TheVariants.{DeleteRange}
 use Rattle.edit.specs.declared.Refusal.{Refusal}
-use Rattle.edit.specs.declared.Verdict.{Verdict}
-use Rattle.edit.specs.declared.Verdict.TheVariants.{Fine, Bad}
 use Rattle.edit.specs.Refusals.{within_ok}
-use Rattle.edit.specs.Call.{number_of, offset_of, paper_verdict, verdict_of, Lent, Outcome, outcome, text_of, result_of, given_tests, finished, applied}
+use Rattle.edit.specs.Call.{paper, number_of, offset_of, verdict_of, Lent, Outcome, outcome, text_of, result_of, given_tests, finished, applied}
 use Rattle.edit.proofs.Workers.{applied-refused, applied-finished, Passed, given_passed, fine_text}
+use Rattle.std.specs.Prelude.{Result, Ok, Err}
 
 module _ (v : View) (e : Edit) (l : Lent) where
-  module _ (x : Verdict) (h : paper_verdict x ≡ verdict_of (given_tests v e l)) where
-    pub refuses : (r : Refusal) → x ≡ Bad r → outcome (refused (number_of r) (offset_of r)) l.buffer l.out_payload l.out_first l.out_second ≡ applied v e l
+  module _ (x : Result (Unit {0}) Refusal) (h : paper x ≡ verdict_of (given_tests v e l)) where
+    pub refuses : (r : Refusal) → x ≡ Err r → outcome (refused (number_of r) (offset_of r)) l.buffer l.out_payload l.out_first l.out_second ≡ applied v e l
     refuses r q = applied-refused v e l (number_of r) (offset_of r) (rw q at h)
 
-    pub passes : x ≡ Fine → verdict_of (given_tests v e l) ≡ done tt
-    passes q = sym h ∙ ap paper_verdict q
+    pub passes : x ≡ Ok tt → verdict_of (given_tests v e l) ≡ done tt
+    passes q = sym h ∙ ap paper q
 
   module _ (h : verdict_of (given_tests v e l) ≡ done tt) where
     pub admitted : (v.used ≤ length l.buffer) × (v.used ≤ 16_384)
-    admitted = fine_text v e l Fine (sym h) refl
+    admitted = fine_text v e l (Ok tt) (sym h) refl
 
     module _ (k : Edit) (same : e ≡ k) where
       -- what the worker of a kind may rely on

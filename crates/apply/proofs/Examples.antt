@@ -9,17 +9,18 @@ use Rattle.edit.specs.Demand3.{State, text, Beside, Undoable}
 use Rattle.edit.specs.Examples as edit
 use Rattle.edit.proofs.Undo.{alike}
 use Rattle.edit.proofs.Examples.{sample-run}
-use Rattle.view.specs.declared.CanUndo.TheVariants.{Yes}
 use Rattle.apply.specs.Demand3.{UndoableCall}
 use Rattle.apply.specs.Examples.{besides, SampleCalls}
 use Rattle.apply.proofs.Demand3.{calls_exist, with_call}
+use Rattle.std.specs.Prelude.{Result, Ok, Err, Bool, true, false}
+use Rattle.edit.specs.declared.Refusal.{Refusal}
 
 -- what the promises of both functions say of an edit, a call of each says: `undoable` reads no slice for an inverse
 made : (s : State) (w : Whole ℕ) (u : State) (i : Whole ℕ) → Undoable s w u i → UndoableCall s w u i
 unfolding undoable
 made s w u i h =
     let c = calls_exist s w h.0 in
-    record { beside = h.0; said = Yes; promise = λ ox of os. sym h.2; yes = refl; call = c; accepted = with_call c u i h.1 }
+    record { beside = h.0; said = Ok true; promise = λ ox of os. sym h.2; yes = refl; call = c; accepted = with_call c u i h.1 }
 
 same_besides : {s w : State} (r : Run Undoable s w) → besides (alike UndoableCall made r).run ≡ edit.besides r
 unfolding alike made besides edit.besides

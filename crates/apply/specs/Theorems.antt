@@ -3,19 +3,21 @@ use Rattle.std.specs.Prelude.{◌≡◌, List, ℕ}
 use Rattle.promise.specs.Settled.{Settles}
 use Rattle.edit.specs.declared.View.{View}
 use Rattle.edit.specs.declared.Edit.{Edit}
-use Rattle.edit.specs.declared.Answer.{Answer}
-use Rattle.edit.specs.Call.{paper_answer, Lent, Outcome, outcome, Promised}
+use Rattle.edit.specs.Call.{paper, Lent, Outcome, outcome, Promised}
+use Rattle.std.specs.Prelude.{Result, Ok, Err}
+use Rattle.edit.specs.declared.Refusal.{Refusal}
+use Rattle.edit.specs.declared.Applied.{Applied}
 
 -- what is there when `apply_edit` returns: its answer, and each slice that it may write
 pub record Exit : Type 0 where
-  pub answer : Answer
+  pub answer : Result Applied Refusal
   pub text : List ℕ
   pub payload : List ℕ
   pub first : List ℕ
   pub second : List ℕ
 
 abbrev pub outcome_of : Exit → Outcome
-outcome_of x = outcome (paper_answer x.answer) x.text x.payload x.first x.second
+outcome_of x = outcome (paper x.answer) x.text x.payload x.first x.second
 
 -- All of it is settled by its outcome.
 abbrev pub ExitSettled : Type 0

@@ -7,7 +7,7 @@ ghost use Rattle.edit.specs.Call.{verdict_of, lent, given_tests, Promised};
 
 use blocks::insert_block;
 use chunks::{delete_block, delete_chunks};
-use edit::{Answer, Edit, MotionKind, Room, Verdict, View};
+use edit::{Applied, Edit, MotionKind, Refusal, Room, View};
 use flat::{delete_chars, delete_lines, insert, replace};
 use given::judge;
 use joins::{join, split};
@@ -23,7 +23,7 @@ pub fn apply_judged(
     outpayload: &mut [u32],
     outfirst: &mut [u32],
     outsecond: &mut [u32],
-) -> Answer
+) -> Result<Applied, Refusal>
     requires { verdict_of (given_tests view edit (lent text.old payload.now first.now second.now outpayload.old outfirst.old outsecond.old)) ≡ done tt }
     ensures { Promised result text.new outpayload.new outfirst.new outsecond.new view edit (lent text.old payload.now first.now second.now outpayload.old outfirst.old outsecond.old) }
 {
@@ -70,13 +70,10 @@ pub fn apply_edit(
     outpayload: &mut [u32],
     outfirst: &mut [u32],
     outsecond: &mut [u32],
-) -> Answer
+) -> Result<Applied, Refusal>
     ensures { Promised result text.new outpayload.new outfirst.new outsecond.new view edit (lent text.old payload.now first.now second.now outpayload.old outfirst.old outsecond.old) }
 {
-    let verdict = judge(text, view, edit, payload, first, second);
-    if let Verdict::Bad(why) = verdict {
-        return Answer::Refused(why);
-    }
+    judge(text, view, edit, payload, first, second)?;
     apply_judged(
         text, view, edit, payload, first, second, outpayload, outfirst, outsecond,
     )

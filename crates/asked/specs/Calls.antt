@@ -10,20 +10,15 @@ use Rattle.frame.specs.declared.Head.TheVariants as as_head
 use Rattle.frame.specs.Forms as forms
 use Rattle.frame.specs.Reads.{contents, edit_of}
 use Rattle.reader.specs.Calls.{Read, text, mark, edit, Filled, filled, read_into, chars_into}
-use Rattle.asked.specs.declared.TextRead.{TextRead}
-use Rattle.asked.specs.declared.TextRead.TheVariants as as_text
-use Rattle.asked.specs.declared.MarkRead.{MarkRead}
-use Rattle.asked.specs.declared.MarkRead.TheVariants as as_mark
 use Rattle.asked.specs.declared.EditRead.{EditRead}
 use Rattle.asked.specs.declared.EditRead.TheVariants as as_edit
+use Rattle.std.specs.Prelude.{Result, Ok, Err}
+use Rattle.edit.specs.declared.Refusal.{Refusal}
+use Rattle.hexline.specs.declared.BadFrame.{BadFrame}
 
-abbrev pub paper_text : TextRead → Paper ℕ
-paper_text (as_text.Chars n) = done n
-paper_text (as_text.Refused r) = refused (number_of r) (offset_of r)
-
-abbrev pub paper_mark : MarkRead → Paper Sel
-paper_mark (as_mark.Mark m) = done m
-paper_mark as_mark.BadFrame = refused 10 0
+abbrev pub paper_mark : Result Sel BadFrame → Paper Sel
+paper_mark (Ok m) = done m
+paper_mark (Err e) = refused 10 0
 
 abbrev pub paper_edit : EditRead → Paper Read
 paper_edit (as_edit.Edit e x f s) = done (edit e x f s)

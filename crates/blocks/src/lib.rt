@@ -6,10 +6,10 @@ ghost use Rattle.text.specs.Rows.{row_count, last_row, row_start};
 ghost use Rattle.text.specs.Text.{is_lf, text_limit, all};
 ghost use Rattle.edit.specs.Edits.{block_inserted};
 ghost use Rattle.edit.specs.Refusals.{is_space, spaces, sum};
-ghost use Rattle.edit.specs.Call.{paper_answer, outcome, lent, room_of, finished};
+ghost use Rattle.edit.specs.Call.{paper, outcome, lent, room_of, finished};
 ghost use Rattle.blocks.specs.Blocks.{put_at, last_end, left, put_from, left_by};
 
-use edit::{Answer, Applied, Edit, Plan, Room, Verdict, View};
+use edit::{Applied, Edit, Plan, Refusal, Room, View};
 use text::{CharOffset, Position, Row};
 
 // Where a chunk goes into a row, how many spaces come before it, and where the row ends.
@@ -166,9 +166,9 @@ pub fn insert_block(
     lens: &[u32],
     widths: &mut [u32],
     pads: &mut [u32],
-) -> Answer
+) -> Result<Applied, Refusal>
     requires { (view.used ≤ length text.old) × (view.used ≤ text_limit) × (at.row.0 ≤ 1_000_000) × (length lens.now ≤ 256) × (sum lens.now ≡ length payload.now) × T (all (λ c. not (is_lf c)) payload.now) × (room.buffer ≡ length text.old) × (room.first ≡ length widths.old) × (room.second ≡ length pads.old) }
-    ensures { (x f s op : List ℕ) → room_of (lent text.old x f s op widths.old pads.old) ≡ room → outcome (paper_answer result) text.new op widths.new pads.new ≡ finished true view (lent text.old x f s op widths.old pads.old) (block_inserted is_lf is_space spaces (take view.used text.old) at payload.now lens.now) }
+    ensures { (x f s op : List ℕ) → room_of (lent text.old x f s op widths.old pads.old) ≡ room → outcome (paper result) text.new op widths.new pads.new ≡ finished true view (lent text.old x f s op widths.old pads.old) (block_inserted is_lf is_space spaces (take view.used text.old) at payload.now lens.now) }
 {
     let used = view.used;
     let count = lens.len();
@@ -181,15 +181,12 @@ pub fn insert_block(
         first: count,
         second: count,
     };
-    let verdict = plan::judge(true, room, planned);
-    if let Verdict::Bad(why) = verdict {
-        return Answer::Refused(why);
-    }
+    plan::judge(true, room, planned)?;
     put_chunks(text, used, extent, at, payload, &lens[0..rows], pads);
     splice::fill(pads, CharOffset(rows), count - rows, 0);
     splice::copy_in(widths, CharOffset(0), lens);
     let cursor = rows::clamp(&text[0..size], at);
-    Answer::Done(Applied {
+    Ok(Applied {
         view: plan::next_view(view, size, cursor),
         inverse: Edit::DeleteBlockChunks { at },
         payload: 0,

@@ -2,7 +2,7 @@
 use mathlib.Core.Path.{◌≡◌, refl, ◌∙◌}
 use mathlib.Core.Bool.{Bool, true, false, cond, not, ◌||◌}
 use mathlib.Core.List.{List, [], ◌∷◌}
-use mathlib.Core.Option.{Option, none, some}
+use Rattle.std.specs.Prelude.{Option, None, Some}
 use Prim.Native.Nat.{ℕ, suc, ◌+◌, ◌*◌, ◌/◌, ◌%◌, max, ◌≤◌, ◌<◌}
 use native.Mathlib.Nat.{div-add-mod', mod-lt, add-mul, zero-add}
 use native.Mathlib.Omega.{arith}
@@ -40,36 +40,36 @@ unfolding width_from
 width-more tab [] cell = omega arith
 width-more tab (x ∷ s) cell = let a = after_more tab cell x in let b = width-more tab s (cell_after tab cell x) in omega arith
 
-nothing : {c : ℕ} → ◌≡◌ {A = Option ℕ} (some c) none → ⊥
+nothing : {c : ℕ} → ◌≡◌ {A = Option ℕ} (Some c) None → ⊥
 nothing e = let z : ◌≡◌ {A = ℕ} 0 1 = cc in omega arith
 
 module _ (cells tab : ℕ) where
-  fits : (row : List ℕ) (cell col : ℕ) → width_from tab cell row ≤ cells → first_outside_from cells tab cell col row ≡ none
+  fits : (row : List ℕ) (cell col : ℕ) → width_from tab cell row ≤ cells → first_outside_from cells tab cell col row ≡ None
   unfolding width_from first_outside_from
   fits [] cell col h = refl
   fits (x ∷ s) cell col h =
       let a : cell_after tab cell x ≤ cells = let b = width-more tab s (cell_after tab cell x) in omega arith in
       rw (le-ltb cells (cell_after tab cell x) a) (fits s (cell_after tab cell x) (suc col) h)
 
-  fitted : (row : List ℕ) (cell col : ℕ) → cell ≤ cells → first_outside_from cells tab cell col row ≡ none → width_from tab cell row ≤ cells
+  fitted : (row : List ℕ) (cell col : ℕ) → cell ≤ cells → first_outside_from cells tab cell col row ≡ None → width_from tab cell row ≤ cells
   unfolding width_from first_outside_from
   fitted [] cell col h e = h
   fitted (x ∷ s) cell col h e = go (ltb cells (cell_after tab cell x)) refl e (λ k q. fitted s (cell_after tab cell x) (suc col) k q)
     where
-      go : (b : Bool) → ltb cells (cell_after tab cell x) ≡ b → cond b (some col) (first_outside_from cells tab (cell_after tab cell x) (suc col) s) ≡ none
-          → (cell_after tab cell x ≤ cells → first_outside_from cells tab (cell_after tab cell x) (suc col) s ≡ none → width_from tab (cell_after tab cell x) s ≤ cells)
+      go : (b : Bool) → ltb cells (cell_after tab cell x) ≡ b → cond b (Some col) (first_outside_from cells tab (cell_after tab cell x) (suc col) s) ≡ None
+          → (cell_after tab cell x ≤ cells → first_outside_from cells tab (cell_after tab cell x) (suc col) s ≡ None → width_from tab (cell_after tab cell x) s ≤ cells)
           → width_from tab (cell_after tab cell x) s ≤ cells
       go true q e i = absurd (nothing e)
       go false q e i = i (ltb-false _ _ q) e
 
-  first : (row : List ℕ) (cell col c : ℕ) → cell ≤ cells → first_outside_from cells tab cell col row ≡ some c
+  first : (row : List ℕ) (cell col c : ℕ) → cell ≤ cells → first_outside_from cells tab cell col row ≡ Some c
       → (k : ℕ) × (c ≡ col + k) × (k < length row) × (width_from tab cell (take k row) ≤ cells) × (cells < width_from tab cell (take (suc k) row))
   unfolding width_from first_outside_from
   first [] cell col c h e = let z : ◌≡◌ {A = ℕ} 0 1 = cc in absurd (omega arith)
   first (x ∷ s) cell col c h e = go (ltb cells (cell_after tab cell x)) refl e (λ k q. first s (cell_after tab cell x) (suc col) c k q)
     where
-      go : (b : Bool) → ltb cells (cell_after tab cell x) ≡ b → cond b (some col) (first_outside_from cells tab (cell_after tab cell x) (suc col) s) ≡ some c
-          → (cell_after tab cell x ≤ cells → first_outside_from cells tab (cell_after tab cell x) (suc col) s ≡ some c
+      go : (b : Bool) → ltb cells (cell_after tab cell x) ≡ b → cond b (Some col) (first_outside_from cells tab (cell_after tab cell x) (suc col) s) ≡ Some c
+          → (cell_after tab cell x ≤ cells → first_outside_from cells tab (cell_after tab cell x) (suc col) s ≡ Some c
           → (k : ℕ) × (c ≡ suc col + k) × (k < length s) × (width_from tab (cell_after tab cell x) (take k s) ≤ cells) × (cells < width_from tab (cell_after tab cell x) (take (suc k) s)))
           → (k : ℕ) × (c ≡ col + k) × (k < suc (length s)) × (width_from tab cell (take k (x ∷ s)) ≤ cells) × (cells < width_from tab cell (take (suc k) (x ∷ s)))
       go true q e i = let w : col ≡ c = cc in (0, omega arith, omega arith, h, ltb-true _ _ q)

@@ -1,6 +1,6 @@
 -- The cells of a row.
 use Rattle.std.specs.Prelude.{cond, List, [], ◌∷◌, ℕ, suc, ◌+◌, ◌*◌, ◌/◌, max, eqb, ltb}
-use Rattle.std.proofs.Math.Option.{Option, none, some}
+use Rattle.std.specs.Prelude.{Option, None, Some}
 use Rattle.cells.specs.Wide.{ranges, is_wide, edges, count_up_to}
 
 -- "a tab runs to the next multiple of a tab width, 0 acting as 1"
@@ -22,9 +22,9 @@ width tab row = width_from tab 0 row
 
 -- "the first character whose last cell lies outside": its column
 unfoldable pub first_outside_from : ℕ → ℕ → ℕ → ℕ → List ℕ → Option ℕ
-first_outside_from cells tab cell col [] = none
+first_outside_from cells tab cell col [] = None
 first_outside_from cells tab cell col (x ∷ s) =
-    cond (ltb cells (cell_after tab cell x)) (some col) (first_outside_from cells tab (cell_after tab cell x) (suc col) s)
+    cond (ltb cells (cell_after tab cell x)) (Some col) (first_outside_from cells tab (cell_after tab cell x) (suc col) s)
 
 abbrev pub first_outside : ℕ → ℕ → List ℕ → Option ℕ
 first_outside cells tab row = first_outside_from cells tab 0 0 row

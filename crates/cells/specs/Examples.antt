@@ -1,7 +1,7 @@
 -- Rows in cells: what rules out wrong tables and walks, with the wrong program above each line; and that what the theorems suppose is met and
 -- needed.
 use Rattle.std.specs.Prelude.{true, false, not, ◌||◌, [], ◌∷◌, ◌≡◌, eqb}
-use Rattle.std.proofs.Math.Option.{none, some}
+use Rattle.std.specs.Prelude.{None, Some}
 use Rattle.text.specs.Text.{all}
 use Rattle.cells.specs.Wide.{is_wide, wide_in, edges, ascends, count_up_to, odd}
 use Rattle.cells.specs.Cells.{width, first_outside, near_after}
@@ -34,17 +34,17 @@ pub record RuledOut : Type 0 where
   -- a tab's stop counted in characters: it stands behind two cells
   pub tab_kana : width 2 (0x3042 ∷ 9 ∷ []) ≡ 4
   -- a character that begins inside and ends outside taken as inside
-  pub half_outside : first_outside 2 8 (97 ∷ 0x3042 ∷ []) ≡ some 1
-  pub tab_outside : first_outside 4 8 (97 ∷ 9 ∷ []) ≡ some 1
+  pub half_outside : first_outside 2 8 (97 ∷ 0x3042 ∷ []) ≡ Some 1
+  pub tab_outside : first_outside 4 8 (97 ∷ 9 ∷ []) ≡ Some 1
   -- the count lost at a character that is not searched for; that of the range before kept
   pub near_kept : near_after 81 97 ≡ 81
   pub near_counted : near_after 81 0x3099 ≡ 83
   -- the cell for the column
-  pub column : first_outside 4 8 (0x3042 ∷ 0x3042 ∷ 97 ∷ []) ≡ some 2
+  pub column : first_outside 4 8 (0x3042 ∷ 0x3042 ∷ 97 ∷ []) ≡ Some 2
 
 -- `LeavesByWidth` is about rows that fit too
 abbrev pub FittingRow : Type 0
-FittingRow = first_outside 3 8 (97 ∷ 0x3042 ∷ []) ≡ none
+FittingRow = first_outside 3 8 (97 ∷ 0x3042 ∷ []) ≡ None
 
 -- `AsWideAsLong` is about some row
 abbrev pub LongRow : Type 0

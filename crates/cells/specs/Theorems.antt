@@ -1,6 +1,6 @@
 -- What is proved of the table, in proofs/Tables.antt, and of rows, in proofs/Widths.antt.
 use Rattle.std.specs.Prelude.{true, not, ◌||◌, List, ◌≡◌, ℕ, suc, ◌≤◌, ◌<◌, eqb, length, take}
-use Rattle.std.proofs.Math.Option.{none, some}
+use Rattle.std.specs.Prelude.{None, Some}
 use Rattle.utf8.specs.Rfc3629.{Range}
 use Rattle.text.specs.Text.{all}
 use Rattle.cells.specs.Cells.{width, first_outside}
@@ -17,9 +17,9 @@ SearchAgrees = (rs : List Range) (v : ℕ) → ascends (edges rs) ≡ true → o
 -- "A row's width is now the sum of its characters' cells": a row leaves no box that is as wide as it, and every narrower one; and it
 -- leaves at "the first character whose last cell lies outside"
 pub record LeavesByWidth : Type 0 where
-  pub fits : (cells tab : ℕ) (row : List ℕ) → width tab row ≤ cells → first_outside cells tab row ≡ none
-  pub fitted : (cells tab : ℕ) (row : List ℕ) → first_outside cells tab row ≡ none → width tab row ≤ cells
-  pub first : (cells tab c : ℕ) (row : List ℕ) → first_outside cells tab row ≡ some c
+  pub fits : (cells tab : ℕ) (row : List ℕ) → width tab row ≤ cells → first_outside cells tab row ≡ None
+  pub fitted : (cells tab : ℕ) (row : List ℕ) → first_outside cells tab row ≡ None → width tab row ≤ cells
+  pub first : (cells tab c : ℕ) (row : List ℕ) → first_outside cells tab row ≡ Some c
       → (c < length row) × (width tab (take c row) ≤ cells) × (cells < width tab (take (suc c) row))
 
 -- document 01's "One character is one cell", of a row with neither tabs nor wide characters: it is as wide as it is long

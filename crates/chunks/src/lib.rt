@@ -9,10 +9,10 @@ ghost use Rattle.splice.specs.Splice.{gap, gap_removed};
 ghost use Rattle.edit.specs.declared.MotionKind.TheVariants.{Block};
 ghost use Rattle.edit.specs.Edits.{chunks_deleted, range_deleted, height};
 ghost use Rattle.edit.specs.Refusals.{is_space, spaces};
-ghost use Rattle.edit.specs.Call.{paper_answer, outcome, lent, room_of, finished};
+ghost use Rattle.edit.specs.Call.{paper, outcome, lent, room_of, finished};
 ghost use Rattle.chunks.specs.Chunks.{cut_at, sizes_of, left, cut_from, left_by};
 
-use edit::{Answer, Applied, Edit, Plan, Room, Verdict, View, extent};
+use edit::{Applied, Edit, Plan, Refusal, Room, View, extent};
 use text::{CharOffset, Col, Position, Row};
 
 // Where a row's cut begins, where the chunk begins in it, behind the padding, where both end, and where the row ends.
@@ -175,9 +175,9 @@ pub fn delete_chunks(
     pads: &[u32],
     out: &mut [u32],
     lens: &mut [u32],
-) -> Answer
+) -> Result<Applied, Refusal>
     requires { (view.used ≤ length text.old) × (view.used ≤ text_limit) × (at.row.0 ≤ 1_000_000) × (length widths.now ≤ 256) × (room.buffer ≡ length text.old) × (room.payload ≡ length out.old) × (room.first ≡ length lens.old) }
-    ensures { (x f s os : List ℕ) → room_of (lent text.old x f s out.old lens.old os) ≡ room → outcome (paper_answer result) text.new out.new lens.new os ≡ finished true view (lent text.old x f s out.old lens.old os) (chunks_deleted is_lf is_space spaces (take view.used text.old) at widths.now pads.now) }
+    ensures { (x f s os : List ℕ) → room_of (lent text.old x f s out.old lens.old os) ≡ room → outcome (paper result) text.new out.new lens.new os ≡ finished true view (lent text.old x f s out.old lens.old os) (chunks_deleted is_lf is_space spaces (take view.used text.old) at widths.now pads.now) }
 {
     let used = view.used;
     let count = widths.len();
@@ -190,14 +190,11 @@ pub fn delete_chunks(
         first: count,
         second: 0,
     };
-    let verdict = plan::judge(true, room, planned);
-    if let Verdict::Bad(why) = verdict {
-        return Answer::Refused(why);
-    }
+    plan::judge(true, room, planned)?;
     cut_block(text, used, sizes, at, &widths[0..rows], pads, out, lens);
     splice::fill(lens, CharOffset(rows), count - rows, 0);
     let cursor = rows::clamp(&text[0..size], at);
-    Answer::Done(Applied {
+    Ok(Applied {
         view: plan::next_view(view, size, cursor),
         inverse: Edit::InsertBlock { at },
         payload: sizes.payload,
@@ -214,9 +211,9 @@ pub fn delete_block(
     end: Position,
     out: &mut [u32],
     lens: &mut [u32],
-) -> Answer
+) -> Result<Applied, Refusal>
     requires { (view.used ≤ length text.old) × (view.used ≤ text_limit) × (start.row.0 ≤ 1_000_000) × (start.col.0 ≤ 1_000_000) × (end.row.0 ≤ 1_000_000) × (end.col.0 ≤ 1_000_000) × (height start end ≤ 256) × (room.buffer ≡ length text.old) × (room.payload ≡ length out.old) × (room.first ≡ length lens.old) }
-    ensures { (x f s os : List ℕ) → room_of (lent text.old x f s out.old lens.old os) ≡ room → outcome (paper_answer result) text.new out.new lens.new os ≡ finished true view (lent text.old x f s out.old lens.old os) (range_deleted is_lf is_space spaces (take view.used text.old) start end Block) }
+    ensures { (x f s os : List ℕ) → room_of (lent text.old x f s out.old lens.old os) ≡ room → outcome (paper result) text.new out.new lens.new os ≡ finished true view (lent text.old x f s out.old lens.old os) (range_deleted is_lf is_space spaces (take view.used text.old) start end Block) }
 {
     let height = extent(start.row.0, end.row.0);
     let breadth = extent(start.col.0, end.col.0) as u32;

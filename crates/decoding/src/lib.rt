@@ -12,7 +12,7 @@ ghost use Rattle.utf8.specs.Calls.{outcome, scalars_of, Fillable, counted, decod
 use sequences::{
     is_three, leading_ones, number_of_four, number_of_three, number_of_two, read_scalar, wide,
 };
-use utf8::{ByteOffset, Decoded, ScalarCount, Step};
+use utf8::{BadUtf8, ByteOffset, DecodeError};
 
 // Whether the sixteen octets from `start` on are ASCII.
 fn is_block(bytes: &[u8], start: usize) -> bool
@@ -65,7 +65,7 @@ fn starts_three(bytes: &[u8], start: usize) -> bool
 
 // How many scalars the bytes hold. By its lead's leading one bits a sequence of one or three octets is read here, and any other by
 // `read_scalar`.
-pub fn count_scalars(bytes: &[u8]) -> ScalarCount
+pub fn count_scalars(bytes: &[u8]) -> Result<usize, BadUtf8>
     ensures { paper_scalar_count result ≡ counted (reading bytes.now) }
 {
     let mut count = 0;
@@ -83,19 +83,16 @@ pub fn count_scalars(bytes: &[u8]) -> ScalarCount
             }
         } else if ones == 3 {
             if !starts_three(bytes, start) {
-                return ScalarCount::BadUtf8(ByteOffset(start));
+                return Err(BadUtf8(ByteOffset(start)));
             }
             at = ByteOffset(start + 3);
             count += 1;
         } else {
-            let Step::Scalar { value: _, next } = read_scalar(bytes, at) else {
-                return ScalarCount::BadUtf8(at);
-            };
-            at = next;
+            at = read_scalar(bytes, at)?.next;
             count += 1;
         }
     }
-    ScalarCount::Scalars(count)
+    Ok(count)
 }
 
 // The scalars of well-formed bytes, to the front of a slice that has room for them. The lead's leading one bits alone tell how many
@@ -138,18 +135,13 @@ fn fill_scalars(bytes: &[u8], out: &mut [u32])
 }
 
 // All the scalars of the bytes, to the front of `out`.
-pub fn decode(bytes: &[u8], out: &mut [u32]) -> Decoded
+pub fn decode(bytes: &[u8], out: &mut [u32]) -> Result<usize, DecodeError>
     ensures { outcome (paper_decoded result) out.new ≡ decoded (reading bytes.now) out.old }
 {
-    let counted = count_scalars(bytes);
-    match counted {
-        ScalarCount::BadUtf8(at) => Decoded::BadUtf8(at),
-        ScalarCount::Scalars(count) => {
-            if out.len() < count {
-                return Decoded::NoRoom;
-            }
-            fill_scalars(bytes, out);
-            Decoded::Scalars(count)
-        }
+    let scalars = count_scalars(bytes)?;
+    if out.len() < scalars {
+        return Err(DecodeError::NoRoom);
     }
+    fill_scalars(bytes, out);
+    Ok(scalars)
 }

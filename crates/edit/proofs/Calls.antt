@@ -17,16 +17,15 @@ use Rattle.edit.specs.declared.Refusal.{Refusal}
 use Rattle.edit.specs.declared.Refusal.TheVariants.{BadText, TooBig, TooMany, BadPayload, BadUtf8, Reversed, BeyondRow, NoRoom, NoRecord, BadFrame}
 use Rattle.edit.specs.declared.Room.{Room}
 use Rattle.edit.specs.declared.Applied.{Applied}
-use Rattle.edit.specs.declared.Answer.{Answer}
-use Rattle.edit.specs.declared.Answer.TheVariants.{Done, Refused}
 use Rattle.edit.specs.Edits.{Whole, whole, Edited}
 use Rattle.edit.specs.Refusals.{short, small_ok, few_ok, payload_ok, within_ok, room_ok, record_ok}
-use Rattle.edit.specs.Call.{number_of, offset_of, paper_answer, first_of, Lent, Outcome, outcome, text_of, result_of, room_of, given_tests, result_tests, applied_as, leaves, applied, Promised, is_undoable, undoable}
+use Rattle.edit.specs.Call.{paper, number_of, offset_of, first_of, Lent, Outcome, outcome, text_of, result_of, room_of, given_tests, result_tests, applied_as, leaves, applied, Promised, is_undoable, undoable}
 use Rattle.edit.specs.Demand3.{State, text, Beside, view_at, lent_at, called, after, returned, AcceptedWith, Accepted, AcceptedOnce}
 use Rattle.edit.specs.Theorems.{SameLengths, LengthsKept, InverseFits, NamedRoomSuffices}
 use Rattle.promise.proofs.Bools.{T_true, T-left}
 use Rattle.edit.proofs.Accepted.{doing, full, holds, Fine, Step, record_room, record_fits}
 use Rattle.edit.proofs.Fits.{inverse_fits}
+use Rattle.std.specs.Prelude.{Result, Ok, Err}
 
 -- ---- a list of tests
 
@@ -73,12 +72,12 @@ module _ {A R : Type 0} (paper : R → Paper A) (refuses : Refusal → R) (same 
       go false h = h
 
 pub promise_met : (v : View) (e : Edit) (l : Lent)
-    → (r : Answer) × Promised r (applied v e l).text (applied v e l).payload (applied v e l).first (applied v e l).second v e l
+    → (r : Result Applied Refusal) × Promised r (applied v e l).text (applied v e l).payload (applied v e l).first (applied v e l).second v e l
 unfolding applied
 promise_met v e l =
     let d = result_of v e l in
     let c = applied v e l in
-    let f = first_answered paper_answer (λ r. Refused r) (λ r. refl) (given_tests v e l ++ result_tests (within_ok (text_of v l) e l.first l.second) (room_of l) d) (Done (applied_as v d)) in
+    let f = first_answered paper (λ r. Err r) (λ r. refl) (given_tests v e l ++ result_tests (within_ok (text_of v l) e l.first l.second) (room_of l) d) (Ok (applied_as v d)) in
     (f.0, ap (λ (p : Paper Applied). outcome p c.text c.payload c.first c.second) (f.1 ∙ sym (leaves-answer _ v l d)))
 
 -- a refusal has a number, and it is not 0

@@ -19,14 +19,13 @@ use Rattle.edit.specs.declared.Edit.TheVariants.{InsertChar, InsertStr, DeleteRa
 use Rattle.edit.specs.declared.Refusal.TheVariants.{BadText, TooBig, TooMany, BadPayload, BadUtf8, Reversed, BeyondRow, NoRoom, NoRecord, BadFrame}
 use Rattle.edit.specs.declared.Refusal.{Refusal}
 use Rattle.edit.specs.declared.Applied.{Applied}
-use Rattle.edit.specs.declared.Answer.{Answer}
-use Rattle.edit.specs.declared.Answer.TheVariants.{Done, Refused}
 use Rattle.edit.specs.Edits.{corner, height}
 use Rattle.edit.specs.Refusals.{wide}
-use Rattle.edit.specs.Call.{paper_answer, number_of, offset_of, first_of, text_of, given_tests, range_undoable, is_undoable, undoable}
+use Rattle.edit.specs.Call.{paper, number_of, offset_of, first_of, text_of, given_tests, range_undoable, is_undoable, undoable}
 use Rattle.edit.specs.Theorems.{Stands, RangeCondition, Condition, UndoableExactly, AnswerSettled}
 use Rattle.promise.proofs.Bools.{T_true, T-both, T-left, T-right}
 use Rattle.edit.proofs.Undo.{in_text_lem}
+use Rattle.std.specs.Prelude.{Result, Ok, Err}
 
 -- ---- undoable
 
@@ -148,9 +147,9 @@ refusal_back n k =
     (cond (eqb n 8) NoRoom
     (cond (eqb n 9) NoRecord BadFrame))))))))
 
-pub answer_back : Paper Applied → Answer
-answer_back (done a) = Done a
-answer_back (refused n k) = Refused (refusal_back n k)
+pub answer_back : Paper Applied → Result Applied Refusal
+answer_back (done a) = Ok a
+answer_back (refused n k) = Err (refusal_back n k)
 
 pub refusal_back_lem : (r : Refusal) → refusal_back (number_of r) (offset_of r) ≡ r
 unfolding refusal_back
@@ -165,10 +164,10 @@ refusal_back_lem NoRoom = refl
 refusal_back_lem NoRecord = refl
 refusal_back_lem BadFrame = refl
 
-pub answer_back_lem : (x : Answer) → answer_back (paper_answer x) ≡ x
+pub answer_back_lem : (x : Result Applied Refusal) → answer_back (paper x) ≡ x
 unfolding answer_back
-answer_back_lem (Done a) = refl
-answer_back_lem (Refused r) = ap (λ (r : Refusal). Refused r) (refusal_back_lem r)
+answer_back_lem (Ok a) = refl
+answer_back_lem (Err r) = ap (λ (r : Refusal). Err r) (refusal_back_lem r)
 
 pub answer_settled : AnswerSettled
 answer_settled = settled answer_back answer_back_lem

@@ -14,15 +14,14 @@ use Rattle.text.proofs.Texts.{front, text-true}
 use Rattle.edit.specs.declared.View.{View}
 use Rattle.edit.specs.declared.Edit.{Edit}
 use Rattle.edit.specs.declared.Refusal.{Refusal}
-use Rattle.edit.specs.declared.Verdict.{Verdict}
-use Rattle.edit.specs.declared.Verdict.TheVariants.{Fine, Bad}
 use Rattle.edit.specs.declared.Room.{Room}
 use Rattle.edit.specs.declared.Applied.{Applied}
 use Rattle.edit.specs.Edits.{Edited}
 use Rattle.edit.specs.Refusals.{short, small_ok, few_ok, payload_ok, within_ok, room_ok, record_ok}
-use Rattle.edit.specs.Call.{number_of, offset_of, paper_verdict, first_of, verdict_of, Lent, outcome, text_of, result_of, room_of, given_tests, result_tests, applied_as, leaves, finished, applied, is_undoable, undoable}
+use Rattle.edit.specs.Call.{paper, number_of, offset_of, first_of, verdict_of, Lent, outcome, text_of, result_of, room_of, given_tests, result_tests, applied_as, leaves, finished, applied, is_undoable, undoable}
 use Rattle.edit.proofs.Accepted.{record_fits}
 use Rattle.edit.proofs.Calls.{passed, leaves-answer}
+use Rattle.std.specs.Prelude.{Result, Ok, Err}
 
 -- ---- a list of tests, judged before it is known what is done if all pass
 
@@ -102,19 +101,19 @@ fits within R d h =
 
 -- ---- a worker's answer, from the verdict on its plan and from what it stored
 
-module _ (within : Bool) (room : Room) (d : Edited ℕ) (v : Verdict) (h : paper_verdict v ≡ verdict_of (result_tests within room d)) where
-  pub worked_fits : v ≡ Fine → Fits room d
-  worked_fits e = (fits within room d (ap paper_verdict (sym e) ∙ h)).1
+module _ (within : Bool) (room : Room) (d : Edited ℕ) (v : Result (Unit {0}) Refusal) (h : paper v ≡ verdict_of (result_tests within room d)) where
+  pub worked_fits : v ≡ Ok tt → Fits room d
+  worked_fits e = (fits within room d (ap paper (sym e) ∙ h)).1
 
   module _ (view : View) (l : Lent) (r : room_of l ≡ room) where
-    pub worked_refused : (why : Refusal) → v ≡ Bad why → outcome (refused (number_of why) (offset_of why)) l.buffer l.out_payload l.out_first l.out_second ≡ finished within view l d
-    worked_refused why e = finished-refused within view l d (number_of why) (offset_of why) (rw r (ap paper_verdict (sym e) ∙ h))
+    pub worked_refused : (why : Refusal) → v ≡ Err why → outcome (refused (number_of why) (offset_of why)) l.buffer l.out_payload l.out_first l.out_second ≡ finished within view l d
+    worked_refused why e = finished-refused within view l d (number_of why) (offset_of why) (rw r (ap paper (sym e) ∙ h))
 
-    pub worked_leaves : v ≡ Fine → leaves (done (applied_as view d)) view l d ≡ finished within view l d
-    worked_leaves e = finished-done within view l d (rw r (ap paper_verdict (sym e) ∙ h))
+    pub worked_leaves : v ≡ Ok tt → leaves (done (applied_as view d)) view l d ≡ finished within view l d
+    worked_leaves e = finished-done within view l d (rw r (ap paper (sym e) ∙ h))
 
     -- the same from what the worker has and leaves, part by part
-    pub worked_done : v ≡ Fine → (a : Applied) (t p f s : List ℕ) → a ≡ applied_as view d → t ≡ renewed l.buffer view.used d.text → p ≡ over d.inverse.payload l.out_payload
+    pub worked_done : v ≡ Ok tt → (a : Applied) (t p f s : List ℕ) → a ≡ applied_as view d → t ≡ renewed l.buffer view.used d.text → p ≡ over d.inverse.payload l.out_payload
         → f ≡ over d.inverse.first l.out_first → s ≡ over d.inverse.second l.out_second → outcome (done a) t p f s ≡ finished within view l d
     unfolding leaves
     worked_done e a t p f s ea et ep ef es = rw (ea, et, ep, ef, es) (worked_leaves e)
@@ -154,14 +153,14 @@ accepted v e l a h =
 
 -- ---- from the verdict on rows 1 to 4, by its case
 
-module _ (v : View) (e : Edit) (l : Lent) (x : Verdict) (h : paper_verdict x ≡ verdict_of (given_tests v e l)) where
-  pub fine_text : x ≡ Fine → (v.used ≤ length l.buffer) × (v.used ≤ 16_384)
+module _ (v : View) (e : Edit) (l : Lent) (x : Result (Unit {0}) Refusal) (h : paper x ≡ verdict_of (given_tests v e l)) where
+  pub fine_text : x ≡ Ok tt → (v.used ≤ length l.buffer) × (v.used ≤ 16_384)
   fine_text q = text-true l.buffer v.used (T_true (text_ok l.buffer v.used) (given_passed v e l (rw q at h)).textual)
 
-  pub undoable-bad : (r : Refusal) → x ≡ Bad r → refused (number_of r) (offset_of r) ≡ undoable v e l
+  pub undoable-bad : (r : Refusal) → x ≡ Err r → refused (number_of r) (offset_of r) ≡ undoable v e l
   unfolding undoable
   undoable-bad r q = sym (first_refuses (given_tests v e l) (number_of r) (offset_of r) (rw q at h) (done (is_undoable (text_of v l) e)))
 
-  pub undoable-fine : (b : Bool) → x ≡ Fine → b ≡ is_undoable (take (v.used - 0) (drop 0 l.buffer)) e → done b ≡ undoable v e l
+  pub undoable-fine : (b : Bool) → x ≡ Ok tt → b ≡ is_undoable (take (v.used - 0) (drop 0 l.buffer)) e → done b ≡ undoable v e l
   unfolding undoable
   undoable-fine b q f = rw (first_passes (given_tests v e l) (rw q at h) (done (is_undoable (text_of v l) e)), ← front l.buffer v.used, ← f)

@@ -12,15 +12,12 @@ use Rattle.edit.specs.declared.Edit.{Edit}
 use Rattle.edit.specs.declared.Edit.TheVariants.{InsertChar, InsertStr, DeleteRange, JoinLines, SplitLines, Replace, InsertBlock, DeleteBlockChunks}
 use Rattle.edit.specs.declared.Refusal.{Refusal}
 use Rattle.edit.specs.declared.Refusal.TheVariants.{BadText, TooBig, TooMany, BadPayload, BadUtf8, Reversed, BeyondRow, NoRoom, NoRecord, BadFrame}
-use Rattle.edit.specs.declared.Verdict.{Verdict}
-use Rattle.edit.specs.declared.Verdict.TheVariants.{Fine, Bad}
 use Rattle.edit.specs.declared.Room.{Room}
 use Rattle.edit.specs.declared.Plan.{Plan}
 use Rattle.edit.specs.declared.Applied.{Applied}
-use Rattle.edit.specs.declared.Answer.{Answer}
-use Rattle.edit.specs.declared.Answer.TheVariants.{Done, Refused}
 use Rattle.edit.specs.Edits.{Edited, edited_by, corner, height}
 use Rattle.edit.specs.Refusals.{is_space, spaces, small_ok, few_ok, payload_ok, within_ok, room_ok, record_ok, wide}
+use Rattle.std.specs.Prelude.{Result, Ok, Err}
 
 -- ---- document 01's table: number and offset of each refusal
 
@@ -49,13 +46,10 @@ offset_of NoRoom = 0
 offset_of NoRecord = 0
 offset_of BadFrame = 0
 
-abbrev pub paper_answer : Answer → Paper Applied
-paper_answer (Done a) = done a
-paper_answer (Refused r) = refused (number_of r) (offset_of r)
-
-abbrev pub paper_verdict : Verdict → Paper (Unit {0})
-paper_verdict Fine = done tt
-paper_verdict (Bad r) = refused (number_of r) (offset_of r)
+-- what is done, or what is refused
+abbrev pub paper : {A : Type 0} → Result A Refusal → Paper A
+paper (Ok a) = done a
+paper (Err r) = refused (number_of r) (offset_of r)
 
 -- ---- refusals in order
 
@@ -147,8 +141,8 @@ applied v e l =
     leaves (first_of (given_tests v e l ++ result_tests (within_ok (text_of v l) e l.first l.second) (room_of l) d) (done (applied_as v d))) v l d
 
 -- What `apply_edit` promises: its answer, with the text and the slices for the inverse as they are at exit, is the whole call at what was lent.
-abbrev pub Promised : Answer → List ℕ → List ℕ → List ℕ → List ℕ → View → Edit → Lent → Type 0
-Promised r text payload first second v e l = outcome (paper_answer r) text payload first second ≡ applied v e l
+abbrev pub Promised : Result Applied Refusal → List ℕ → List ℕ → List ℕ → List ℕ → View → Edit → Lent → Type 0
+Promised r text payload first second v e l = outcome (paper r) text payload first second ≡ applied v e l
 
 -- ---- undoable
 

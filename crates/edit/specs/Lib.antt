@@ -5,3 +5,4 @@ pub mod Runs
 pub mod Demand3
 pub mod Theorems
 pub mod Examples
+pub mod Errors

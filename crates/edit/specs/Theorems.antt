@@ -11,7 +11,7 @@ use Rattle.edit.specs.declared.MotionKind.TheVariants.{Char, Line as Lines, Bloc
 use Rattle.edit.specs.declared.Edit.{Edit}
 use Rattle.edit.specs.declared.Edit.TheVariants.{InsertChar, InsertStr, DeleteRange, JoinLines, SplitLines, Replace, InsertBlock, DeleteBlockChunks}
 use Rattle.edit.specs.declared.Applied.{Applied}
-use Rattle.edit.specs.Call.{paper_answer, first_of, Lent, text_of, given_tests, Outcome, applied, undoable}
+use Rattle.edit.specs.Call.{paper, first_of, Lent, text_of, given_tests, Outcome, applied, undoable}
 use Rattle.edit.specs.Edits.{Whole, whole, Made, Edited, edited, edited_by}
 
 module _ {A B : Type 0} (f : A → B) where
@@ -95,4 +95,4 @@ NamedRoomSuffices =
 
 -- an answer is settled by its number, its offset or what was done
 abbrev pub AnswerSettled : Type 0
-AnswerSettled = Settles paper_answer
+AnswerSettled = Settles (paper {A = Applied})

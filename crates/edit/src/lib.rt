@@ -6,7 +6,7 @@ ghost use Rattle.std.specs.Prelude.{◌≡◌, suc, ◌-◌, min, max};
 ghost use Rattle.edit.specs.Call.{number_of};
 
 use text::{Position, Row};
-use utf8::ByteOffset;
+use utf8::{BadText, BadUtf8, ByteOffset, DecodeError, EncodeError, NoRoom};
 
 // A text's used length in its buffer, the cursor, and how many edits were accepted, modulo 2^64.
 #[repr(C)]
@@ -41,7 +41,7 @@ pub fn extent(a: u32, b: u32) -> usize
     }
 }
 
-#[derive(Clone, Copy)]
+#[derive(Clone, Copy, Debug, PartialEq, Eq)]
 pub enum MotionKind {
     Char,
     Line,
@@ -84,7 +84,7 @@ pub enum Edit {
     },
 }
 
-#[derive(Clone, Copy)]
+#[derive(Clone, Copy, Debug, PartialEq, Eq)]
 pub enum Refusal {
     BadText,
     TooBig,
@@ -118,11 +118,65 @@ impl Refusal {
     }
 }
 
-// Nothing is refused, or what is.
-#[derive(Clone, Copy)]
-pub enum Verdict {
-    Fine,
-    Bad(Refusal),
+impl From<BadText> for Refusal {
+    ghost use Rattle.std.specs.Prelude.{◌≡◌};
+    ghost use Rattle.edit.specs.declared.Refusal.TheVariants as refusal;
+
+    ghost from_gives = { λ _ why. why ≡ refusal.BadText };
+
+    fn from(_bad: BadText) -> Refusal {
+        Refusal::BadText
+    }
+}
+
+impl From<NoRoom> for Refusal {
+    ghost use Rattle.std.specs.Prelude.{◌≡◌};
+    ghost use Rattle.edit.specs.declared.Refusal.TheVariants as refusal;
+
+    ghost from_gives = { λ _ why. why ≡ refusal.NoRoom };
+
+    fn from(_full: NoRoom) -> Refusal {
+        Refusal::NoRoom
+    }
+}
+
+impl From<BadUtf8> for Refusal {
+    ghost use Rattle.std.specs.Prelude.{◌≡◌};
+    ghost use Rattle.edit.specs.declared.Refusal.TheVariants as refusal;
+
+    ghost from_gives = { λ bad why. why ≡ refusal.BadUtf8 bad.0 };
+
+    fn from(bad: BadUtf8) -> Refusal {
+        Refusal::BadUtf8(bad.0)
+    }
+}
+
+impl From<DecodeError> for Refusal {
+    ghost use Rattle.std.specs.Prelude.{◌≡◌};
+    ghost use Rattle.edit.specs.Errors.{decode_refusal};
+
+    ghost from_gives = { λ bad why. why ≡ decode_refusal bad };
+
+    fn from(bad: DecodeError) -> Refusal {
+        match bad {
+            DecodeError::BadUtf8(at) => Refusal::BadUtf8(at),
+            DecodeError::NoRoom => Refusal::NoRoom,
+        }
+    }
+}
+
+impl From<EncodeError> for Refusal {
+    ghost use Rattle.std.specs.Prelude.{◌≡◌};
+    ghost use Rattle.edit.specs.Errors.{encode_refusal};
+
+    ghost from_gives = { λ bad why. why ≡ encode_refusal bad };
+
+    fn from(bad: EncodeError) -> Refusal {
+        match bad {
+            EncodeError::BadText => Refusal::BadText,
+            EncodeError::NoRoom => Refusal::NoRoom,
+        }
+    }
 }
 
 // How long the lent slices are: the text's buffer, and the slices for the inverse's payload and its two lists.
@@ -151,10 +205,4 @@ pub struct Applied {
     pub payload: usize,
     pub first: usize,
     pub second: usize,
-}
-
-#[derive(Clone, Copy)]
-pub enum Answer {
-    Done(Applied),
-    Refused(Refusal),
 }

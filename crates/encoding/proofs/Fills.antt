@@ -18,6 +18,10 @@ use Rattle.utf8.proofs.Numbers.{scalar-low, octets-1, octets-3, octets-len}
 use Rattle.utf8.proofs.Stores.{stored_more, stored-rest, stored-end}
 use Rattle.encoding.proofs.Sequences.{octets-in, sequence_good}
 
+pub next_scalar : (cs : List ℕ) (i : ℕ) → i < length cs → all_scalar (drop i cs) ≡ true → scalar (get_or cs i 0) ≡ true
+unfolding all_scalar
+next_scalar cs i h all = (both (scalar (get_or cs i 0)) (all_scalar (drop (i + 1) cs)) (rw (next cs i h) at all)).0
+
 module _ (cs b t : List ℕ) (i at : ℕ) (p : Paper (List ℕ)) (h : i < length cs) (e : p ≡ sequence_of (get_or cs i 0))
     (all : all_scalar (drop i cs) ≡ true) (d : drop at (writing cs) ≡ writing (drop i cs)) (room : length (writing cs) ≤ length b) where
   fill_next : (scalar (get_or cs i 0) ≡ true) × (all_scalar (drop (i + 1) cs) ≡ true)
@@ -76,7 +80,7 @@ module _ (cs b t : List ℕ) (i at : ℕ) (h : i < length cs) (all : all_scalar 
   module _ (l : 0x7FF < get_or cs i 0) (u : get_or cs i 0 ≤ 0xFFFF) where
     three_is : three ≡ sequence_of (get_or cs i 0)
     unfolding three all_scalar
-    three_is = sequence_good (get_or cs i 0) _ (both (scalar (get_or cs i 0)) (all_scalar (drop (i + 1) cs)) (rw (next cs i h) at all)).0 (octets-3 (get_or cs i 0) l u)
+    three_is = sequence_good (get_or cs i 0) _ (next_scalar cs i h all) (octets-3 (get_or cs i 0) l u)
 
     pub three_room : at + 3 ≤ length (writing cs)
     unfolding three

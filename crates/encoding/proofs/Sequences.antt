@@ -1,5 +1,5 @@
 -- One scalar written.
-use mathlib.Core.Path.{◌≡◌, refl}
+use mathlib.Core.Path.{◌≡◌, refl, ◌∙◌}
 use mathlib.Core.Bool.{Bool, true, false, cond, not, ◌&&◌}
 use mathlib.Core.List.{List}
 use Prim.Native.Nat.{ℕ, ◌≤◌, ◌<◌}
@@ -10,6 +10,11 @@ use lib.ListN.{length}
 use Rattle.promise.specs.Paper.{done, refused}
 use Rattle.promise.proofs.Bools.{both}
 use Rattle.utf8.specs.Rfc3629.{scalar, octets}
+use Rattle.utf8.specs.declared.Sequence.{Sequence}
+use Rattle.utf8.specs.declared.Sequence.TheVariants as sequence
+use Rattle.std.specs.Prelude.{Result, Ok, Err, IsOk}
+use Rattle.utf8.specs.declared.BadText.{BadText}
+use Rattle.utf8.specs.Answers.{octets_of, paper_sequence}
 use Rattle.utf8.specs.Calls.{sequence_of, octets_in}
 use Rattle.utf8.proofs.Numbers.{scalar-low, octets-1, octets-3, octets-len}
 
@@ -51,3 +56,16 @@ one-long c h = rw (octets-in c (scalar-low c (omega arith)), octets-1 c h)
 
 pub three_long : (c : ℕ) → 0x7FF < c → c ≤ 0xD7FF → 3 ≡ length (octets_in (sequence_of c))
 three_long c l h = rw (octets-in c (scalar-low c h), octets-3 c l (omega arith))
+
+-- a sequence has octets
+pub octets_some : (q : Sequence) → length (octets_of q) ≡ 0 → ⊥
+octets_some (sequence.One a) e = omega arith
+octets_some (sequence.Two a b) e = omega arith
+octets_some (sequence.Three a b c) e = omega arith
+octets_some (sequence.Four a b c d) e = omega arith
+
+-- a scalar has one
+pub scalar_written : (r : Result Sequence BadText) (c : ℕ) → paper_sequence r ≡ sequence_of c → scalar c ≡ true → IsOk r
+unfolding sequence_of
+scalar_written (Ok q) c e s = refl
+scalar_written (Err b) c e s = let f : refused 1 0 ≡ done (octets c) = e ∙ rw s in let z : ◌≡◌ {A = ℕ} 0 1 = cc in absurd (omega arith)

@@ -5,11 +5,11 @@ ghost use Rattle.std.specs.Prelude.{◌≡◌, true, ◌+◌, ◌/◌, ◌%◌, 
 ghost use Rattle.std.proofs.lemmas.List.Edits.{sets};
 ghost use Rattle.utf8.specs.Rfc3629.{scalar};
 ghost use Rattle.utf8.specs.Reading.{all_scalar, writing};
-ghost use Rattle.utf8.specs.Answers.{paper_sequence, paper_octet_count, paper_encoded};
+ghost use Rattle.utf8.specs.Answers.{octets_of, paper_sequence, paper_octet_count, paper_encoded};
 ghost use Rattle.promise.specs.Slices.{over};
 ghost use Rattle.utf8.specs.Calls.{outcome, octets_in, sequence_of, octet_count, encoded};
 
-use utf8::{ByteOffset, Encoded, OctetCount, Sequence};
+use utf8::{BadText, ByteOffset, EncodeError, Sequence};
 
 fn is_scalar(value: u32) -> bool
     ensures { result ≡ scalar value }
@@ -33,44 +33,43 @@ fn lead_of_three(value: u32) -> u8
 }
 
 // The octets of one scalar.
-pub fn sequence_of(value: u32) -> Sequence
+pub fn sequence_of(value: u32) -> Result<Sequence, BadText>
     ensures { paper_sequence result ≡ sequence_of value }
 {
     if value <= 0x7F {
-        return Sequence::One(value as u8);
+        return Ok(Sequence::One(value as u8));
     }
     if !is_scalar(value) {
-        return Sequence::BadText;
+        return Err(BadText);
     }
     if value <= 0x7FF {
-        return Sequence::Two((0b1100_0000 + value / 64) as u8, tail(value));
+        return Ok(Sequence::Two((0b1100_0000 + value / 64) as u8, tail(value)));
     }
     if value <= 0xFFFF {
-        return Sequence::Three(lead_of_three(value), tail(value / 64), tail(value));
+        return Ok(Sequence::Three(lead_of_three(value), tail(value / 64), tail(value)));
     }
-    Sequence::Four(
+    Ok(Sequence::Four(
         (0b1111_0000 + value / 64 / 64 / 64) as u8,
         tail(value / 64 / 64),
         tail(value / 64),
         tail(value),
-    )
+    ))
 }
 
 // How many octets a sequence has.
 fn octet_len(sequence: Sequence) -> usize
-    ensures { result ≡ length (octets_in (paper_sequence sequence)) }
+    ensures { result ≡ length (octets_of sequence) }
 {
     match sequence {
         Sequence::One(_) => 1,
         Sequence::Two(_, _) => 2,
         Sequence::Three(_, _, _) => 3,
         Sequence::Four(_, _, _, _) => 4,
-        Sequence::BadText => 0,
     }
 }
 
 // How many octets the scalars take. One and three octets are counted here, so that a run of them makes no call.
-pub fn count_octets(scalars: &[u32]) -> OctetCount
+pub fn count_octets(scalars: &[u32]) -> Result<usize, BadText>
     ensures { paper_octet_count result ≡ octet_count scalars.now }
 {
     let mut count = 0;
@@ -84,21 +83,17 @@ pub fn count_octets(scalars: &[u32]) -> OctetCount
             count += 3;
             i += 1;
         } else {
-            let len = octet_len(sequence_of(value));
-            if len == 0 {
-                return OctetCount::BadText;
-            }
-            count += len;
+            count += octet_len(sequence_of(value)?);
             i += 1;
         }
     }
-    OctetCount::Octets(count)
+    Ok(count)
 }
 
 // A sequence, to a slice that has room for it at `at`; the place after it.
 fn put(out: &mut [u8], at: ByteOffset, sequence: Sequence) -> ByteOffset
-    requires { at.0 + length (octets_in (paper_sequence sequence)) ≤ length out.old }
-    ensures { (out.new ≡ sets out.old at.0 (octets_in (paper_sequence sequence))) × (result.0 ≡ at.0 + length (octets_in (paper_sequence sequence))) }
+    requires { at.0 + length (octets_of sequence) ≤ length out.old }
+    ensures { (out.new ≡ sets out.old at.0 (octets_of sequence)) × (result.0 ≡ at.0 + length (octets_of sequence)) }
 {
     let start = at.0;
     match sequence {
@@ -124,7 +119,6 @@ fn put(out: &mut [u8], at: ByteOffset, sequence: Sequence) -> ByteOffset
             out[start + 3] = d;
             ByteOffset(start + 4)
         }
-        Sequence::BadText => at,
     }
 }
 
@@ -150,25 +144,20 @@ pub fn fill_octets(scalars: &[u32], out: &mut [u8])
             at = ByteOffset(start + 3);
             i += 1;
         } else {
-            at = put(out, at, sequence_of(value));
+            at = put(out, at, sequence_of(value).unwrap());
             i += 1;
         }
     }
 }
 
 // All the octets of the scalars, to the front of `out`.
-pub fn encode(scalars: &[u32], out: &mut [u8]) -> Encoded
+pub fn encode(scalars: &[u32], out: &mut [u8]) -> Result<usize, EncodeError>
     ensures { outcome (paper_encoded result) out.new ≡ encoded scalars.now out.old }
 {
-    let counted = count_octets(scalars);
-    match counted {
-        OctetCount::BadText => Encoded::BadText,
-        OctetCount::Octets(count) => {
-            if out.len() < count {
-                return Encoded::NoRoom;
-            }
-            fill_octets(scalars, out);
-            Encoded::Octets(count)
-        }
+    let count = count_octets(scalars)?;
+    if out.len() < count {
+        return Err(EncodeError::NoRoom);
     }
+    fill_octets(scalars, out);
+    Ok(count)
 }

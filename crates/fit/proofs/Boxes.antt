@@ -86,7 +86,7 @@ module _ (buffer : List ℕ) (used cells tab : ℕ) (good : Bool) (e : good ≡ 
   unfolding fits_in first_of
   fit_too_big h k = rw (← e, h, k)
 
-  pub fit_found : (x : Paper Fit) → not good ≡ false → not (small cells && small tab) ≡ false
-      → x ≡ done (first_over cells tab 0 (lines is_lf (take (used - 0) (drop 0 buffer)))) → x ≡ fits_in buffer used cells tab
+  pub fit_found : (x : Fit) → not good ≡ false → not (small cells && small tab) ≡ false
+      → x ≡ first_over cells tab 0 (lines is_lf (take (used - 0) (drop 0 buffer))) → done x ≡ fits_in buffer used cells tab
   unfolding fits_in first_of
-  fit_found x h k q = rw (← e, h, k, ← front buffer used) q
+  fit_found x h k q = rw (← e, h, k, ← front buffer used, q)

@@ -2,30 +2,27 @@
 #![tactic(auto)]
 
 ghost use Rattle.std.specs.Prelude.{◌≡◌, ◌≤◌, length};
-ghost use Rattle.promise.specs.Paper.{done};
 ghost use Rattle.text.specs.Rows.{lines};
 ghost use Rattle.text.specs.Text.{is_lf, text_limit};
 ghost use Rattle.cells.specs.Wide.{edges, ranges};
-ghost use Rattle.fit.specs.Calls.{paper_box_fit, first_over, fits_in};
+ghost use Rattle.fit.specs.Calls.{fit_of, paper_box_fit, first_over, fits_in};
 
 use cells::{cell_after, wide_table};
 use text::{Col, LF, Position, Row, is_text};
 use too_big::NUMBER_LIMIT;
 
-// Whether every row fits a box, or where the first that does not leaves it.
-#[derive(Clone, Copy)]
-pub enum BoxFit {
-    AllFit,
-    Leaves(Position),
+// Why a box is not tried.
+#[derive(Clone, Copy, Debug, PartialEq, Eq)]
+pub enum BoxError {
     BadText,
     TooBig,
 }
 
-fn first_over(text: &[u32], cells: u32, tab: u32, table: &[u32]) -> BoxFit
+fn first_over(text: &[u32], cells: u32, tab: u32, table: &[u32]) -> Option<Position>
     requires { (length text.now ≤ text_limit) × (cells ≤ 1_000_000) × (tab ≤ 1_000_000) × (table.now ≡ edges ranges) }
-    ensures { paper_box_fit result ≡ done (first_over cells tab 0 (lines is_lf text.now)) }
+    ensures { fit_of result ≡ first_over cells tab 0 (lines is_lf text.now) }
 {
-    let mut answer = BoxFit::AllFit;
+    let mut answer = None;
     let mut near = 0;
     let mut row = 0;
     let mut i = 0;
@@ -39,7 +36,7 @@ fn first_over(text: &[u32], cells: u32, tab: u32, table: &[u32]) -> BoxFit
             let next = cell_after(table, near, tab, cell, text[i]);
             let end = next.cell;
             if cells < end {
-                answer = BoxFit::Leaves(Position {
+                answer = Some(Position {
                     row: Row(row),
                     col: Col(col),
                 });
@@ -59,17 +56,22 @@ fn first_over(text: &[u32], cells: u32, tab: u32, table: &[u32]) -> BoxFit
 }
 
 // The first row that leaves a box of `cells` cells, and the column of the first character whose last cell lies outside.
-pub fn box_fit(buffer: &[u32], used: usize, cells: u32, tab: u32) -> BoxFit
+pub fn box_fit(
+    buffer: &[u32],
+    used: usize,
+    cells: u32,
+    tab: u32,
+) -> Result<Option<Position>, BoxError>
     ensures { paper_box_fit result ≡ fits_in buffer.now used cells tab }
 {
     let good = is_text(buffer, used);
     let small = (cells <= NUMBER_LIMIT) & (tab <= NUMBER_LIMIT);
     if !good {
-        return BoxFit::BadText;
+        return Err(BoxError::BadText);
     }
     if !small {
-        return BoxFit::TooBig;
+        return Err(BoxError::TooBig);
     }
     let table = wide_table();
-    first_over(&buffer[0..used], cells, tab, &table)
+    Ok(first_over(&buffer[0..used], cells, tab, &table))
 }

@@ -6,10 +6,10 @@ mod cuts;
 ghost use Rattle.std.specs.Prelude.{◌≡◌, true, List, ℕ, ◌≤◌, length, take};
 ghost use Rattle.text.specs.Text.{is_lf, text_limit};
 ghost use Rattle.edit.specs.Edits.{Edited, inserted, chars_deleted, lines_deleted, replaced};
-ghost use Rattle.edit.specs.Call.{paper_answer, paper_verdict, verdict_of, outcome, lent, room_of, result_tests, plan_of, finished};
+ghost use Rattle.edit.specs.Call.{paper, verdict_of, outcome, lent, room_of, result_tests, plan_of, finished};
 
 use cuts::{char_cut, line_cut};
-use edit::{Answer, Applied, Edit, MotionKind, Plan, Room, Verdict, View};
+use edit::{Applied, Edit, MotionKind, Plan, Refusal, Room, View};
 use plan::{end_after, judge, next_view};
 use rows::{clamp, last_row, locate};
 use splice::{close_gap, open_gap};
@@ -31,8 +31,8 @@ pub struct LineCut {
 }
 
 // Rows 8 and 9 for a text of this length and an inverse with a payload of that: a flat edit's inverse has no lists.
-fn judge_flat(room: Room, used: usize, payload: usize) -> Verdict
-    ensures { (d : Edited ℕ) → plan_of d ≡ record { used = used; payload = payload; first = 0; second = 0 } → paper_verdict result ≡ verdict_of (result_tests true room d) }
+fn judge_flat(room: Room, used: usize, payload: usize) -> Result<(), Refusal>
+    ensures { (d : Edited ℕ) → plan_of d ≡ record { used = used; payload = payload; first = 0; second = 0 } → paper result ≡ verdict_of (result_tests true room d) }
 {
     judge(
         true,
@@ -47,21 +47,24 @@ fn judge_flat(room: Room, used: usize, payload: usize) -> Verdict
 }
 
 // InsertStr and InsertChar.
-pub fn insert(text: &mut [u32], view: View, room: Room, at: Position, payload: &[u32]) -> Answer
+pub fn insert(
+    text: &mut [u32],
+    view: View,
+    room: Room,
+    at: Position,
+    payload: &[u32],
+) -> Result<Applied, Refusal>
     requires { (view.used ≤ length text.old) × (view.used ≤ text_limit) × (length payload.now ≤ text_limit) × (room.buffer ≡ length text.old) }
-    ensures { (x f s op of os : List ℕ) → room_of (lent text.old x f s op of os) ≡ room → outcome (paper_answer result) text.new op of os ≡ finished true view (lent text.old x f s op of os) (inserted is_lf (take view.used text.old) at payload.now) }
+    ensures { (x f s op of os : List ℕ) → room_of (lent text.old x f s op of os) ≡ room → outcome (paper result) text.new op of os ≡ finished true view (lent text.old x f s op of os) (inserted is_lf (take view.used text.old) at payload.now) }
 {
     let used = view.used;
     let size = used + payload.len();
-    let verdict = judge_flat(room, size, 0);
-    if let Verdict::Bad(why) = verdict {
-        return Answer::Refused(why);
-    }
+    judge_flat(room, size, 0)?;
     let place = locate(&text[0..used], at);
     let start = place.pos;
     let end = end_after(start, payload);
     open_gap(text, used, place.at, payload);
-    Answer::Done(Applied {
+    Ok(Applied {
         view: next_view(view, size, end),
         inverse: Edit::DeleteRange {
             start,
@@ -81,22 +84,19 @@ pub fn delete_chars(
     start: Position,
     end: Position,
     out: &mut [u32],
-) -> Answer
+) -> Result<Applied, Refusal>
     requires { (view.used ≤ length text.old) × (view.used ≤ text_limit) × (room.buffer ≡ length text.old) × (room.payload ≡ length out.old) }
-    ensures { (x f s of os : List ℕ) → room_of (lent text.old x f s out.old of os) ≡ room → outcome (paper_answer result) text.new out.new of os ≡ finished true view (lent text.old x f s out.old of os) (chars_deleted is_lf (take view.used text.old) start end) }
+    ensures { (x f s of os : List ℕ) → room_of (lent text.old x f s out.old of os) ≡ room → outcome (paper result) text.new out.new of os ≡ finished true view (lent text.old x f s out.old of os) (chars_deleted is_lf (take view.used text.old) start end) }
 {
     let used = view.used;
     let at = start.min(end);
     let cut = char_cut(&text[0..used], start, end);
     let gone = cut.end.0 - cut.start.0;
     let left = used - gone;
-    let verdict = judge_flat(room, left, gone);
-    if let Verdict::Bad(why) = verdict {
-        return Answer::Refused(why);
-    }
+    judge_flat(room, left, gone)?;
     close_gap(text, used, cut.start, cut.end, out);
     let cursor = clamp(&text[0..left], at);
-    Answer::Done(Applied {
+    Ok(Applied {
         view: next_view(view, left, cursor),
         inverse: Edit::InsertStr { at },
         payload: gone,
@@ -112,9 +112,9 @@ pub fn delete_lines(
     start: Position,
     end: Position,
     out: &mut [u32],
-) -> Answer
+) -> Result<Applied, Refusal>
     requires { (view.used ≤ length text.old) × (view.used ≤ text_limit) × (room.buffer ≡ length text.old) × (room.payload ≡ length out.old) }
-    ensures { (x f s of os : List ℕ) → room_of (lent text.old x f s out.old of os) ≡ room → outcome (paper_answer result) text.new out.new of os ≡ finished true view (lent text.old x f s out.old of os) (lines_deleted is_lf (take view.used text.old) start end) }
+    ensures { (x f s of os : List ℕ) → room_of (lent text.old x f s out.old of os) ≡ room → outcome (paper result) text.new out.new of os ≡ finished true view (lent text.old x f s out.old of os) (lines_deleted is_lf (take view.used text.old) start end) }
 {
     let used = view.used;
     let rows = line_cut(&text[0..used], start.row, end.row);
@@ -122,14 +122,11 @@ pub fn delete_lines(
     let cut = rows.cut;
     let gone = cut.end.0 - cut.start.0;
     let left = used - gone;
-    let verdict = judge_flat(room, left, gone);
-    if let Verdict::Bad(why) = verdict {
-        return Answer::Refused(why);
-    }
+    judge_flat(room, left, gone)?;
     close_gap(text, used, cut.start, cut.end, out);
     let row = rows.lo.min(last_row(&text[0..left]));
     let cursor = Position { row, col: Col(0) };
-    Answer::Done(Applied {
+    Ok(Applied {
         view: next_view(view, left, cursor),
         inverse: Edit::InsertStr { at: back },
         payload: gone,
@@ -148,9 +145,9 @@ pub fn replace(
     end: Position,
     payload: &[u32],
     out: &mut [u32],
-) -> Answer
+) -> Result<Applied, Refusal>
     requires { (view.used ≤ length text.old) × (view.used ≤ text_limit) × (length payload.now ≤ text_limit) × (room.buffer ≡ length text.old) × (room.payload ≡ length out.old) }
-    ensures { (x f s of os : List ℕ) → room_of (lent text.old x f s out.old of os) ≡ room → outcome (paper_answer result) text.new out.new of os ≡ finished true view (lent text.old x f s out.old of os) (replaced is_lf (take view.used text.old) start end payload.now) }
+    ensures { (x f s of os : List ℕ) → room_of (lent text.old x f s out.old of os) ≡ room → outcome (paper result) text.new out.new of os ≡ finished true view (lent text.old x f s out.old of os) (replaced is_lf (take view.used text.old) start end payload.now) }
 {
     let used = view.used;
     let from = start.min(end);
@@ -158,16 +155,13 @@ pub fn replace(
     let gone = cut.end.0 - cut.start.0;
     let left = used - gone;
     let size = left + payload.len();
-    let verdict = judge_flat(room, size, gone);
-    if let Verdict::Bad(why) = verdict {
-        return Answer::Refused(why);
-    }
+    judge_flat(room, size, gone)?;
     close_gap(text, used, cut.start, cut.end, out);
     let place = locate(&text[0..left], from);
     let begin = place.pos;
     let to = end_after(begin, payload);
     open_gap(text, left, place.at, payload);
-    Answer::Done(Applied {
+    Ok(Applied {
         view: next_view(view, size, to),
         inverse: Edit::Replace {
             start: begin,

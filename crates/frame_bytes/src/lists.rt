@@ -11,7 +11,7 @@ ghost use Rattle.frame.specs.Format.{column_bytes, width_bytes, chunk_bytes};
 
 use crate::puts::{put_number, put_pair};
 use encoding::{count_octets, fill_octets};
-use utf8::{ByteOffset, OctetCount};
+use utf8::ByteOffset;
 
 // A column with its flag.
 fn put_column(bytes: &mut [u8], at: ByteOffset, col: u32, flag: u32)
@@ -54,10 +54,7 @@ fn put_chunk(bytes: &mut [u8], at: ByteOffset, chars: &[u32]) -> ByteOffset
     requires { (all_scalar chars.now ≡ true) × (length (writing chars.now) ≤ 18_432) × (at.0 + (4 + length (writing chars.now)) ≤ length bytes.old) }
     ensures { (bytes.new ≡ paste bytes.old at.0 (number (length (writing chars.now)) ++ writing chars.now) (4 + length (writing chars.now))) × (result.0 ≡ at.0 + (4 + length (writing chars.now))) }
 {
-    let counted = count_octets(chars);
-    let OctetCount::Octets(octets) = counted else {
-        return at;
-    };
+    let octets = count_octets(chars).unwrap();
     let start = at.0;
     put_number(bytes, at, octets as u32);
     fill_octets(chars, &mut bytes[start + 4..]);

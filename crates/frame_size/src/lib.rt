@@ -12,7 +12,7 @@ use bad_payload::sums_to;
 use edit::Edit;
 use encoding::count_octets;
 use frame::BYTE_LIMIT;
-use utf8::OctetCount;
+use utf8::BadText;
 
 // Whether every flag is 0 or 1.
 fn all_flags(flags: &[u32]) -> bool
@@ -44,18 +44,18 @@ pub fn has_bytes(edit: Edit, payload: &[u32], first: &[u32], second: &[u32]) -> 
 }
 
 // How many octets the characters take that an edit's frame has.
-pub fn octets_of(edit: Edit, payload: &[u32]) -> OctetCount
+pub fn octets_of(edit: Edit, payload: &[u32]) -> Result<usize, BadText>
     ensures { paper_octet_count result ≡ octet_count (edit_chars edit payload.now) }
 {
     match edit {
-        Edit::InsertChar { .. } => OctetCount::Octets(0),
+        Edit::InsertChar { .. } => Ok(0),
         Edit::InsertStr { .. } => count_octets(payload),
-        Edit::DeleteRange { .. } => OctetCount::Octets(0),
-        Edit::JoinLines { .. } => OctetCount::Octets(0),
-        Edit::SplitLines { .. } => OctetCount::Octets(0),
+        Edit::DeleteRange { .. } => Ok(0),
+        Edit::JoinLines { .. } => Ok(0),
+        Edit::SplitLines { .. } => Ok(0),
         Edit::Replace { .. } => count_octets(payload),
         Edit::InsertBlock { .. } => count_octets(payload),
-        Edit::DeleteBlockChunks { .. } => OctetCount::Octets(0),
+        Edit::DeleteBlockChunks { .. } => Ok(0),
     }
 }
 

@@ -3,14 +3,14 @@
 
 ghost use Rattle.std.specs.Prelude.{◌≡◌};
 ghost use Rattle.edit.specs.declared.Edit.{Edit as AnEdit};
-ghost use Rattle.edit.specs.Call.{paper_answer, outcome};
+ghost use Rattle.edit.specs.Call.{paper, outcome};
 ghost use Rattle.frame.specs.declared.Head.TheVariants as as_head;
 ghost use Rattle.frame.specs.Forms.{head_of, line_form};
 ghost use Rattle.frame.specs.Reads.{frame_read};
 ghost use Rattle.framed.specs.Calls.{frame_applied, line_applied};
 
 use apply::apply_edit;
-use edit::{Answer, Refusal, View};
+use edit::{Applied, Refusal, View};
 use frame::{BYTE_LIMIT, Head};
 use place::{Place, judge};
 use reader::{FrameRead, read};
@@ -23,14 +23,14 @@ fn apply_edit_line(
     outpayload: &mut [u32],
     outfirst: &mut [u32],
     outsecond: &mut [u32],
-) -> Answer
+) -> Result<Applied, Refusal>
     requires { (e : AnEdit) × (head_of (line_form line.now) ≡ as_head.Edit e) }
-    ensures { outcome (paper_answer result) text.new outpayload.new outfirst.new outsecond.new ≡ frame_applied (frame_read line.now) view text.old outpayload.old outfirst.old outsecond.old }
+    ensures { outcome (paper result) text.new outpayload.new outfirst.new outsecond.new ≡ frame_applied (frame_read line.now) view text.old outpayload.old outfirst.old outsecond.old }
 {
     let mut payload = [0u32; BYTE_LIMIT];
     let mut first = [0u32; 4_608];
     let mut second = [0u32; 3_687];
-    let frame = read(line, &mut payload, &mut first, &mut second);
+    let frame = read(line, &mut payload, &mut first, &mut second)?;
     match frame {
         FrameRead::Edit {
             edit,
@@ -48,9 +48,8 @@ fn apply_edit_line(
             outfirst,
             outsecond,
         ),
-        FrameRead::Refused(why) => Answer::Refused(why),
-        FrameRead::Text(_) => Answer::Refused(Refusal::BadFrame),
-        FrameRead::Mark(_) => Answer::Refused(Refusal::BadFrame),
+        FrameRead::Text(_) => Err(Refusal::BadFrame),
+        FrameRead::Mark(_) => Err(Refusal::BadFrame),
     }
 }
 
@@ -62,8 +61,8 @@ pub fn apply_frame(
     outpayload: &mut [u32],
     outfirst: &mut [u32],
     outsecond: &mut [u32],
-) -> Answer
-    ensures { outcome (paper_answer result) text.new outpayload.new outfirst.new outsecond.new ≡ line_applied view line.now text.old outpayload.old outfirst.old outsecond.old }
+) -> Result<Applied, Refusal>
+    ensures { outcome (paper result) text.new outpayload.new outfirst.new outsecond.new ≡ line_applied view line.now text.old outpayload.old outfirst.old outsecond.old }
 {
     let among_edits = Place {
         sound: true,
@@ -73,8 +72,8 @@ pub fn apply_frame(
     let head = judge(among_edits, &text[0..0], line);
     match head {
         Head::Edit(_) => apply_edit_line(text, view, line, outpayload, outfirst, outsecond),
-        Head::Malformed => Answer::Refused(Refusal::BadFrame),
-        Head::Text => Answer::Refused(Refusal::BadFrame),
-        Head::Mark(_) => Answer::Refused(Refusal::BadFrame),
+        Head::Malformed => Err(Refusal::BadFrame),
+        Head::Text => Err(Refusal::BadFrame),
+        Head::Mark(_) => Err(Refusal::BadFrame),
     }
 }

@@ -10,21 +10,15 @@ mod words;
 
 use crate::buffer::{Buffer, ROOM};
 use lines::read_text;
-use script::{Ran, run_script};
+use script::run_script;
 use std::io;
-
-// What a script printed, none where it has no room.
-fn printed(ran: Ran, out: &[u8]) -> Option<&[u8]> {
-    match ran {
-        Ran::Bytes(count) => out.get(..count),
-        Ran::NoRoom => None,
-    }
-}
 
 fn prints(script: &[u8], output: &[u8]) -> bool {
     let mut out = [0; ROOM];
-    let ran = run_script(script, &mut out);
-    printed(ran, &out) == Some(output)
+    match run_script(script, &mut out) {
+        Ok(count) => out.get(..count) == Some(output),
+        Err(_) => false,
+    }
 }
 
 fn take_lines(out: &impl Print, input: &[u8]) -> io::Result<()> {

@@ -4,28 +4,28 @@
 ghost use Rattle.std.specs.Prelude.{List, ◌≡◌, ℕ, ◌≤◌, length};
 ghost use Rattle.text.specs.Text.{text_limit};
 ghost use Rattle.edit.specs.Refusals.{small_ok, few_ok, payload_ok};
-ghost use Rattle.edit.specs.Call.{paper_verdict, verdict_of, given_tests, lent};
+ghost use Rattle.edit.specs.Call.{paper, verdict_of, given_tests, lent};
 ghost use Rattle.given.specs.Tests.{later_tests};
 
 use bad_payload::payload_good;
-use edit::{Edit, Refusal, Verdict, View};
+use edit::{Edit, Refusal, View};
 use text::is_text;
 use too_big::numbers_small;
 use too_many::lists_few;
 
-pub fn first_refusal(small: bool, few: bool, good: bool) -> Verdict
-    ensures { paper_verdict result ≡ verdict_of (later_tests small few good) }
+pub fn first_refusal(small: bool, few: bool, good: bool) -> Result<(), Refusal>
+    ensures { paper result ≡ verdict_of (later_tests small few good) }
 {
     if !small {
-        return Verdict::Bad(Refusal::TooBig);
+        return Err(Refusal::TooBig);
     }
     if !few {
-        return Verdict::Bad(Refusal::TooMany);
+        return Err(Refusal::TooMany);
     }
     if !good {
-        return Verdict::Bad(Refusal::BadPayload);
+        return Err(Refusal::BadPayload);
     }
-    Verdict::Fine
+    Ok(())
 }
 
 // The first of refusals 2 to 4 that an edit meets, on a text that is known to be admitted.
@@ -35,9 +35,9 @@ pub fn judge_admitted(
     payload: &[u32],
     first: &[u32],
     second: &[u32],
-) -> Verdict
+) -> Result<(), Refusal>
     requires { length text.now ≤ text_limit }
-    ensures { paper_verdict result ≡ verdict_of (later_tests (small_ok edit first.now second.now) (few_ok text.now edit payload.now first.now second.now) (payload_ok edit payload.now first.now)) }
+    ensures { paper result ≡ verdict_of (later_tests (small_ok edit first.now second.now) (few_ok text.now edit payload.now first.now second.now) (payload_ok edit payload.now first.now)) }
 {
     let small = numbers_small(edit, first, second);
     let few = lists_few(text, edit, payload, first, second);
@@ -53,12 +53,12 @@ pub fn judge(
     payload: &[u32],
     first: &[u32],
     second: &[u32],
-) -> Verdict
-    ensures { (op of os : List ℕ) → paper_verdict result ≡ verdict_of (given_tests view edit (lent buffer.now payload.now first.now second.now op of os)) }
+) -> Result<(), Refusal>
+    ensures { (op of os : List ℕ) → paper result ≡ verdict_of (given_tests view edit (lent buffer.now payload.now first.now second.now op of os)) }
 {
     let used = view.used;
     if !is_text(buffer, used) {
-        return Verdict::Bad(Refusal::BadText);
+        return Err(Refusal::BadText);
     }
     judge_admitted(&buffer[0..used], edit, payload, first, second)
 }

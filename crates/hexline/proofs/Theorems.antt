@@ -10,15 +10,15 @@ use Rattle.promise.specs.Paper.{Paper, done, refused}
 use Rattle.promise.proofs.Bools.{both, both_true, clash}
 use Rattle.promise.proofs.Settled.{settled as settles}
 use Rattle.text.specs.Text.{all}
-use Rattle.hexline.specs.declared.Unhexed.{Unhexed}
-use Rattle.hexline.specs.declared.Unhexed.TheVariants as as_unhexed
-use Rattle.hexline.specs.declared.Hexed.{Hexed}
-use Rattle.hexline.specs.declared.Hexed.TheVariants as as_hexed
 use Rattle.hexline.specs.Digits.{is_digit, value_of, digit_of, hexed, unhexed, paired}
 use Rattle.hexline.specs.Calls.{paper_unhexed, paper_hexed}
 use Rattle.hexline.specs.Theorems.{UnhexesHexed, HexesUnhexed, TwoDigits, Settled}
 use Rattle.hexline.proofs.Digits.{digit_value, value-small, pair_byte, digit_good, value-digit}
 use Rattle.hexline.proofs.Pairs.{hexed-length}
+use Rattle.std.specs.Prelude.{Result, Ok, Err}
+use Rattle.utf8.specs.declared.NoRoom.{NoRoom}
+use Rattle.hexline.specs.declared.UnhexError.{UnhexError}
+use Rattle.hexline.specs.declared.UnhexError.TheVariants as unhex_error
 
 -- one byte, from its two digits and back
 module _ (b : ℕ) (h : b ≤ 255) where
@@ -58,28 +58,28 @@ hexes_unhexed (c ∷ d ∷ s) e =
 pub two_digits : TwoDigits
 two_digits = hexed-length
 
-unhexed_back : Paper ℕ → Unhexed
-unhexed_back (done n) = as_unhexed.Octets n
-unhexed_back (refused n k) = cond (eqb n 8) as_unhexed.NoRoom as_unhexed.BadFrame
+unhexed_back : Paper ℕ → Result ℕ UnhexError
+unhexed_back (done n) = Ok n
+unhexed_back (refused n k) = cond (eqb n 8) (Err unhex_error.NoRoom) (Err unhex_error.BadFrame)
 
-unhexed-back : (x : Unhexed) → unhexed_back (paper_unhexed x) ≡ x
+unhexed-back : (x : Result ℕ UnhexError) → unhexed_back (paper_unhexed x) ≡ x
 unfolding unhexed_back
-unhexed-back (as_unhexed.Octets n) = refl
-unhexed-back as_unhexed.BadFrame = refl
-unhexed-back as_unhexed.NoRoom = refl
+unhexed-back (Ok n) = refl
+unhexed-back (Err unhex_error.BadFrame) = refl
+unhexed-back (Err unhex_error.NoRoom) = refl
 
-hexed_back : Paper ℕ → Hexed
-hexed_back (done n) = as_hexed.Digits n
-hexed_back (refused n k) = as_hexed.NoRoom
+hexed_back : Paper ℕ → Result ℕ NoRoom
+hexed_back (done n) = Ok n
+hexed_back (refused n k) = Err (record {})
 
-hexed-back : (x : Hexed) → hexed_back (paper_hexed x) ≡ x
+hexed-back : (x : Result ℕ NoRoom) → hexed_back (paper_hexed x) ≡ x
 unfolding hexed_back
-hexed-back (as_hexed.Digits n) = refl
-hexed-back as_hexed.NoRoom = refl
+hexed-back (Ok n) = refl
+hexed-back (Err e) = refl
 
 pub settled : Settled
 settled =
     record {
-      unhex = settles (λ o. (unhexed_back o.answer, o.out)) (λ x. ap (λ (u : Unhexed). (u, x.1)) (unhexed-back x.0));
-      hex = settles (λ o. (hexed_back o.answer, o.out)) (λ x. ap (λ (u : Hexed). (u, x.1)) (hexed-back x.0));
+      unhex = settles (λ o. (unhexed_back o.answer, o.out)) (λ x. ap (λ (u : Result ℕ UnhexError). (u, x.1)) (unhexed-back x.0));
+      hex = settles (λ o. (hexed_back o.answer, o.out)) (λ x. ap (λ (u : Result ℕ NoRoom). (u, x.1)) (hexed-back x.0));
     }

@@ -3,10 +3,12 @@ use Rattle.std.specs.Prelude.{true, List, ◌≡◌, ℕ, ◌*◌, length, leb}
 use Rattle.promise.specs.Settled.{Settles}
 use Rattle.utf8.specs.Calls.{outcome}
 use Rattle.text.specs.Text.{all}
-use Rattle.hexline.specs.declared.Unhexed.{Unhexed}
-use Rattle.hexline.specs.declared.Hexed.{Hexed}
 use Rattle.hexline.specs.Digits.{hexed, unhexed, paired}
 use Rattle.hexline.specs.Calls.{paper_unhexed, paper_hexed}
+use Rattle.std.specs.Prelude.{Result, Ok, Err}
+use Rattle.utf8.specs.declared.NoRoom.{NoRoom}
+use Rattle.hexline.specs.declared.UnhexError.{UnhexError}
+use Rattle.hexline.specs.declared.UnhexError.TheVariants as unhex_error
 
 -- what is a byte
 abbrev pub Bytes : List ℕ → Type 0
@@ -24,5 +26,5 @@ TwoDigits = (bs : List ℕ) → length (hexed bs) ≡ length bs * 2
 
 -- Each public promise settles the answer and the lent slice.
 pub record Settled : Type 0 where
-  pub unhex : Settles {A = Unhexed × List ℕ} (λ o. outcome (paper_unhexed o.0) o.1)
-  pub hex : Settles {A = Hexed × List ℕ} (λ o. outcome (paper_hexed o.0) o.1)
+  pub unhex : Settles {A = Result ℕ UnhexError × List ℕ} (λ o. outcome (paper_unhexed o.0) o.1)
+  pub hex : Settles {A = Result ℕ NoRoom × List ℕ} (λ o. outcome (paper_hexed o.0) o.1)

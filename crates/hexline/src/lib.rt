@@ -7,21 +7,19 @@ ghost use Rattle.hexline.specs.Digits.{is_digit, value_of, digit_of, hexed, unhe
 ghost use Rattle.hexline.specs.Calls.{paper_unhexed, paper_hexed, bytes_into, digits_into};
 ghost use Rattle.utf8.specs.Calls.{outcome};
 
+use utf8::NoRoom;
+
 // The most digits that a line has.
 pub const DIGIT_LIMIT: usize = 36_864;
 
-// How many bytes the digits were, read to the front of the slice lent for them.
-#[derive(Clone, Copy)]
-pub enum Unhexed {
-    Octets(usize),
-    BadFrame,
-    NoRoom,
-}
+// A line is no frame.
+#[derive(Clone, Copy, Debug, PartialEq, Eq)]
+pub struct BadFrame;
 
-// How many digits were written to the front of the slice lent for them.
-#[derive(Clone, Copy)]
-pub enum Hexed {
-    Digits(usize),
+// Why digits are not read.
+#[derive(Clone, Copy, Debug, PartialEq, Eq)]
+pub enum UnhexError {
+    BadFrame,
     NoRoom,
 }
 
@@ -89,34 +87,34 @@ fn fill_digits(bytes: &[u8], out: &mut [u8])
     }
 }
 
-// The bytes of a line's digits, to the front of `out`.
-pub fn unhex(line: &[u8], out: &mut [u8]) -> Unhexed
+// The bytes of a line's digits, to the front of `out`, and how many they are.
+pub fn unhex(line: &[u8], out: &mut [u8]) -> Result<usize, UnhexError>
     ensures { outcome (paper_unhexed result) out.new ≡ bytes_into line.now out.old }
 {
     if DIGIT_LIMIT < line.len() {
-        return Unhexed::BadFrame;
+        return Err(UnhexError::BadFrame);
     }
     if !is_paired(line) {
-        return Unhexed::BadFrame;
+        return Err(UnhexError::BadFrame);
     }
     let count = line.len() / 2;
     if out.len() < count {
-        return Unhexed::NoRoom;
+        return Err(UnhexError::NoRoom);
     }
     fill_bytes(line, out);
-    Unhexed::Octets(count)
+    Ok(count)
 }
 
-// The digits of some bytes, to the front of `out`.
-pub fn hex(bytes: &[u8], out: &mut [u8]) -> Hexed
+// The digits of some bytes, to the front of `out`, and how many they are.
+pub fn hex(bytes: &[u8], out: &mut [u8]) -> Result<usize, NoRoom>
     ensures { outcome (paper_hexed result) out.new ≡ digits_into bytes.now out.old }
 {
     if DIGIT_LIMIT / 2 < bytes.len() {
-        return Hexed::NoRoom;
+        return Err(NoRoom);
     }
     if out.len() / 2 < bytes.len() {
-        return Hexed::NoRoom;
+        return Err(NoRoom);
     }
     fill_digits(bytes, out);
-    Hexed::Digits(bytes.len() * 2)
+    Ok(bytes.len() * 2)
 }

@@ -18,13 +18,11 @@ use Rattle.text.proofs.Texts.{front}
 use Rattle.edit.specs.declared.View.{View}
 use Rattle.edit.specs.declared.Edit.TheVariants.{SplitLines}
 use Rattle.edit.specs.declared.Refusal.{Refusal}
-use Rattle.edit.specs.declared.Verdict.{Verdict}
-use Rattle.edit.specs.declared.Verdict.TheVariants.{Fine, Bad}
 use Rattle.edit.specs.declared.Room.{Room}
 use Rattle.edit.specs.declared.Plan.{Plan}
 use Rattle.edit.specs.Edits.{Edited, joined}
 use Rattle.edit.specs.Refusals.{is_space, spaces}
-use Rattle.edit.specs.Call.{number_of, offset_of, paper_verdict, verdict_of, result_tests, plan_of, Lent, lent, room_of, outcome, applied_as, finished}
+use Rattle.edit.specs.Call.{paper, number_of, offset_of, verdict_of, result_tests, plan_of, Lent, lent, room_of, outcome, applied_as, finished}
 use Rattle.edit.proofs.Joins.{join_cols-length, join_flags-length}
 use Rattle.text.proofs.Walks.{found_row, found_again}
 use Rattle.text.proofs.Spots.{row_within}
@@ -36,6 +34,7 @@ use Rattle.joins.proofs.Parts.{part-last, part-span}
 use Rattle.joins.proofs.JoinLocal.{part-joins, part-whole}
 use Rattle.splice.specs.Splice.{gap_removed}
 use Rattle.splice.proofs.Rooms.{moved_down}
+use Rattle.std.specs.Prelude.{Result, Ok, Err}
 
 -- the row that was found, and the plan for it
 module _ (text : List ℕ) (used row count : ℕ) (b : Bool) (f : Span) (ef : f ≡ span is_lf (take (used - 0) (drop 0 text)) row) where
@@ -150,13 +149,13 @@ module _ (text : List ℕ) (used row count : ℕ) (b : Bool) (f : Span) (ef : f 
           et ∙ rw (ap (λ (s : Slices). s.text) q, kept-is, whole_is, sub-zero) (moved_down text used e u part_small end-within room) in
           rw (m, c, g)
 
-    pub join-refused : (view : View) (room : Room) (v : Verdict) → ((e : Edited ℕ) → plan_of e ≡ p → paper_verdict v ≡ verdict_of (result_tests true room e)) → (why : Refusal) → v ≡ Bad why
+    pub join-refused : (view : View) (room : Room) (v : Result (Unit {0}) Refusal) → ((e : Edited ℕ) → plan_of e ≡ p → paper v ≡ verdict_of (result_tests true room e)) → (why : Refusal) → v ≡ Err why
         → (x y z op cols flags : List ℕ) → room_of (lent text x y z op cols flags) ≡ room
         → outcome (refused (number_of why) (offset_of why)) text op cols flags ≡ finished true view (lent text x y z op cols flags) d
     join-refused view room v h why e x y z op cols flags er = worked_refused true room d v (h d join-planned) view (lent text x y z op cols flags) er why e
 
     -- the answer and the slices, once nothing refuses
-    module _ (view : View) (eu : view.used ≡ used) (room : Room) (v : Verdict) (h : (e : Edited ℕ) → plan_of e ≡ p → paper_verdict v ≡ verdict_of (result_tests true room e)) (fine : v ≡ Fine) where
+    module _ (view : View) (eu : view.used ≡ used) (room : Room) (v : Result (Unit {0}) Refusal) (h : (e : Edited ℕ) → plan_of e ≡ p → paper v ≡ verdict_of (result_tests true room e)) (fine : v ≡ Ok tt) where
       pub join-room : (p.first ≤ room.first) × (p.first ≤ room.second)
       join-room =
           let q = worked_fits true room d v (h d join-planned) fine in

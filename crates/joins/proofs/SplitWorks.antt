@@ -15,19 +15,18 @@ use Rattle.text.proofs.Texts.{front}
 use Rattle.edit.specs.declared.View.{View}
 use Rattle.edit.specs.declared.Edit.TheVariants.{JoinLines, SplitLines}
 use Rattle.edit.specs.declared.Refusal.{Refusal}
-use Rattle.edit.specs.declared.Verdict.{Verdict}
-use Rattle.edit.specs.declared.Verdict.TheVariants.{Fine, Bad}
 use Rattle.edit.specs.declared.Room.{Room}
 use Rattle.edit.specs.declared.Plan.{Plan}
 use Rattle.edit.specs.Edits.{Edited, split, any_flag}
 use Rattle.edit.specs.Refusals.{is_space, spaces, within_ok}
-use Rattle.edit.specs.Call.{number_of, offset_of, paper_verdict, verdict_of, result_tests, plan_of, lent, room_of, outcome, applied_as, finished}
+use Rattle.edit.specs.Call.{paper, number_of, offset_of, verdict_of, result_tests, plan_of, lent, room_of, outcome, applied_as, finished}
 use Rattle.text.proofs.Walks.{found_row, found_again, span-parts, span-within}
 use Rattle.splice.proofs.Rooms.{opened, opened-length, opened-front, moved_up}
 use Rattle.edit.proofs.Workers.{worked_fits, worked_refused, worked_done}
 use Rattle.joins.specs.declared.SplitPlan.{SplitPlan}
 use Rattle.joins.proofs.SplitTurns.{splits_none, splits_grow}
 use Rattle.joins.proofs.SplitLocal.{row_span_lem, row_split}
+use Rattle.std.specs.Prelude.{Result, Ok, Err}
 
 module _ (text : List ℕ) (used : ℕ) (row : Row) (cs fs : List ℕ) (f : Span) (ef : f ≡ span is_lf (take (used - 0) (drop 0 text)) row.0) where
   abbrev t : List ℕ
@@ -54,15 +53,15 @@ module _ (text : List ℕ) (used : ℕ) (row : Row) (cs fs : List ℕ) (f : Span
     pub split-planned : plan_of d ≡ p.sizes
     split-planned = sym (ap (λ (q : SplitPlan). q.sizes) ep ∙ rw (front text used, same_split))
 
-    module _ (view : View) (room : Room) (v : Verdict) (h : (e : Edited ℕ) → plan_of e ≡ p.sizes → paper_verdict v ≡ verdict_of (result_tests p.within room e)) where
-      judged : paper_verdict v ≡ verdict_of (result_tests (within_ok t (SplitLines row) cs fs) room d)
+    module _ (view : View) (room : Room) (v : Result (Unit {0}) Refusal) (h : (e : Edited ℕ) → plan_of e ≡ p.sizes → paper v ≡ verdict_of (result_tests p.within room e)) where
+      judged : paper v ≡ verdict_of (result_tests (within_ok t (SplitLines row) cs fs) room d)
       judged = h d split-planned ∙ rw within-is
 
-      pub split-refused : (why : Refusal) → v ≡ Bad why → (x y z op of os : List ℕ) → room_of (lent text x y z op of os) ≡ room
+      pub split-refused : (why : Refusal) → v ≡ Err why → (x y z op of os : List ℕ) → room_of (lent text x y z op of os) ≡ room
           → outcome (refused (number_of why) (offset_of why)) text op of os ≡ finished (within_ok t (SplitLines row) cs fs) view (lent text x y z op of os) d
       split-refused why e x y z op of os er = worked_refused (within_ok t (SplitLines row) cs fs) room d v judged view (lent text x y z op of os) er why e
 
-      module _ (fine : v ≡ Fine) where
+      module _ (fine : v ≡ Ok tt) where
         split-room : length (split is_lf is_space spaces t f.row.0 cs fs).text ≤ room.buffer
         split-room = rw same_split (worked_fits (within_ok t (SplitLines row) cs fs) room d v judged fine).buffer
 

@@ -4,11 +4,11 @@ ghost use Rattle.text.specs.Rows.{last_row, span};
 ghost use Rattle.text.specs.Text.{is_lf, text_limit};
 ghost use Rattle.edit.specs.Edits.{joined};
 ghost use Rattle.edit.specs.Refusals.{is_space, spaces};
-ghost use Rattle.edit.specs.Call.{paper_answer, lent, room_of, outcome, finished};
+ghost use Rattle.edit.specs.Call.{paper, lent, room_of, outcome, finished};
 ghost use Rattle.joins.specs.Turns.{join_turn, join_plan, joins, slices, filled};
 
 use crate::{JoinPlan, JoinTurn, replace};
-use edit::{Answer, Applied, Edit, Plan, Room, Verdict, View};
+use edit::{Applied, Edit, Plan, Refusal, Room, View};
 use splice::SPACE;
 use text::{CharOffset, Col, Position, Row, Span};
 
@@ -94,18 +94,15 @@ pub fn join(
     spaced: bool,
     cols: &mut [u32],
     flags: &mut [u32],
-) -> Answer
+) -> Result<Applied, Refusal>
     requires { (view.used ≤ length text.old) × (view.used ≤ text_limit) × (room.first ≡ length cols.old) × (room.second ≡ length flags.old) × (room.buffer ≡ length text.old) }
-    ensures { (x f s op : List ℕ) → room_of (lent text.old x f s op cols.old flags.old) ≡ room → outcome (paper_answer result) text.new op cols.new flags.new ≡ finished true view (lent text.old x f s op cols.old flags.old) (joined is_lf is_space spaces (take view.used text.old) row.0 count spaced) }
+    ensures { (x f s op : List ℕ) → room_of (lent text.old x f s op cols.old flags.old) ≡ room → outcome (paper result) text.new op cols.new flags.new ≡ finished true view (lent text.old x f s op cols.old flags.old) (joined is_lf is_space spaces (take view.used text.old) row.0 count spaced) }
 {
     let used = view.used;
     let found = rows::find_row(&text[0..used], row);
     let plan = join_plan(&text[0..used], found, count, spaced);
     let sizes = plan.sizes;
-    let verdict = plan::judge(true, room, sizes);
-    if let Verdict::Bad(why) = verdict {
-        return Answer::Refused(why);
-    }
+    plan::judge(true, room, sizes)?;
     // The joins are made in the text up to `end`, so that what stands behind it moves once.
     let end = plan.end.0;
     join_rows(
@@ -123,7 +120,7 @@ pub fn join(
     let at = found.row;
     let col = Col(0);
     let next = plan::next_view(view, sizes.used, Position { row: at, col });
-    Answer::Done(Applied {
+    Ok(Applied {
         view: next,
         inverse: Edit::SplitLines { row: at },
         payload: 0,

@@ -5,11 +5,11 @@ ghost use Rattle.text.specs.Text.{is_lf, text_limit, renewed};
 ghost use Rattle.edit.specs.declared.Edit.TheVariants.{SplitLines};
 ghost use Rattle.edit.specs.Edits.{split, any_flag};
 ghost use Rattle.edit.specs.Refusals.{is_space, spaces, within_ok};
-ghost use Rattle.edit.specs.Call.{paper_answer, plan_of, lent, room_of, outcome, finished};
+ghost use Rattle.edit.specs.Call.{paper, plan_of, lent, room_of, outcome, finished};
 ghost use Rattle.joins.specs.Turns.{split_turn};
 
 use crate::{SplitPlan, SplitTurn, replace};
-use edit::{Answer, Applied, Edit, Plan, Room, Verdict, View};
+use edit::{Applied, Edit, Plan, Refusal, Room, View};
 use splice::SPACE;
 use text::{CharOffset, Col, LF, Position, Row, Span};
 
@@ -112,18 +112,15 @@ pub fn split(
     row: Row,
     cols: &[u32],
     flags: &[u32],
-) -> Answer
+) -> Result<Applied, Refusal>
     requires { (view.used ≤ length text.old) × (view.used ≤ text_limit) × (length cols.now ≤ 256) × (room.buffer ≡ length text.old) }
-    ensures { (x f s op of os : List ℕ) → room_of (lent text.old x f s op of os) ≡ room → outcome (paper_answer result) text.new op of os ≡ finished (within_ok (take view.used text.old) (SplitLines row) cols.now flags.now) view (lent text.old x f s op of os) (split is_lf is_space spaces (take view.used text.old) row.0 cols.now flags.now) }
+    ensures { (x f s op of os : List ℕ) → room_of (lent text.old x f s op of os) ≡ room → outcome (paper result) text.new op of os ≡ finished (within_ok (take view.used text.old) (SplitLines row) cols.now flags.now) view (lent text.old x f s op of os) (split is_lf is_space spaces (take view.used text.old) row.0 cols.now flags.now) }
 {
     let used = view.used;
     let found = rows::find_row(&text[0..used], row);
     let plan = split_plan(&text[0..used], found, cols, flags);
     let sizes = plan.sizes;
-    let verdict = plan::judge(plan.within, room, sizes);
-    if let Verdict::Bad(why) = verdict {
-        return Answer::Refused(why);
-    }
+    plan::judge(plan.within, room, sizes)?;
     // The row is split in room that is opened behind it, so that the text from there on moves once.
     let end = found.end.0;
     let more = sizes.used - used;
@@ -133,7 +130,7 @@ pub fn split(
     let at = found.row;
     let col = Col(0);
     let next = plan::next_view(view, sizes.used, Position { row: at, col });
-    Answer::Done(Applied {
+    Ok(Applied {
         view: next,
         inverse: Edit::JoinLines {
             row: at,

@@ -29,8 +29,6 @@ use Rattle.edit.proofs.Maps.{map-length}
 use Rattle.edit.proofs.Workers.{Passed, accepted}
 use Rattle.edit.proofs.Calls.{first_answered, next_text, with_called}
 use Rattle.apply.proofs.Demand3.{calls_exist, called-with, with_call}
-use Rattle.shift.specs.declared.Shifted.{Shifted}
-use Rattle.shift.specs.declared.Shifted.TheVariants.{At, Dropped, Refused}
 use Rattle.shift.specs.Answers.{Followed, to, dropped, paper_shifted}
 use Rattle.shift.specs.Kinds.{shifted}
 use Rattle.shift.specs.Call.{ordered_range, ordered_ok, shift_tests, position_shifted}
@@ -43,12 +41,14 @@ use Rattle.letters.specs.Keeps.{Keeps, KeepsWhole}
 use Rattle.letters.specs.Theorems.{Markable}
 use Rattle.letters.specs.Calls.{LettersStayCall, ShiftCall, ShiftCallsExist, KeepingCall, FollowedTo, CodeLettersStay, NeverPass, CodeMarksMeet, LedOnce, LedInOrder}
 use Rattle.letters.proofs.Theorems.{Known, opened-known, step-known, marks_meet}
+use Rattle.std.specs.Prelude.{Result, Ok, Err, Option, Some, None}
+use Rattle.edit.specs.declared.Refusal.{Refusal}
 
 -- ---- calls of `shift_position`
 
-answer_of : Followed Position → Shifted
-answer_of (to p) = At p
-answer_of dropped = Dropped
+answer_of : Followed Position → Result (Option Position) Refusal
+answer_of (to p) = Ok (Some p)
+answer_of dropped = Ok None
 
 answer_is : (f : Followed Position) → paper_shifted (answer_of f) ≡ done f
 unfolding answer_of
@@ -60,11 +60,11 @@ unfolding position_shifted
 shift_calls_exist s w p =
     let f = shifted (text s) w.edit w.payload w.first p in
     let tests = shift_tests s.buffer s.used w.edit w.payload w.first w.second (small_position p) in
-    let r = first_answered paper_shifted (λ r. Refused r) (λ r. refl) tests (answer_of f) in
+    let r = first_answered paper_shifted (λ r. Err r) (λ r. refl) tests (answer_of f) in
     record { answer = r.0; promise = r.1 ∙ ap (first_of tests) (answer_is f) }
 
-was_at : (r : Shifted) (q : Position) → paper_shifted r ≡ done (to q) → r ≡ At q
-was_at r q e = promises_settle.shift_position (done (to q)) r (At q) e refl
+was_at : (r : Result (Option Position) Refusal) (q : Position) → paper_shifted r ≡ done (to q) → r ≡ Ok (Some q)
+was_at r q e = promises_settle.shift_position (done (to q)) r (Ok (Some q)) e refl
 
 -- ---- what an accepted call says of shifts over its edit
 
@@ -104,7 +104,7 @@ module _ {s : State} {w : Whole ℕ} {u : State} {i : Whole ℕ} (h : KeepingCal
   text-short = let b = text-true s.buffer s.used textual in omega (arith, length-take-le s.used s.buffer b.0)
 
   -- a position that row 2 admits is answered
-  answers : (p q : Position) → small_position p ≡ true → shifted (text s) w.edit w.payload w.first p ≡ to q → (c : ShiftCall s w p) → c.answer ≡ At q
+  answers : (p q : Position) → small_position p ≡ true → shifted (text s) w.edit w.payload w.first p ≡ to q → (c : ShiftCall s w p) → c.answer ≡ Ok (Some q)
   unfolding position_shifted first_of
   answers p q small e c =
       was_at c.answer q
@@ -135,11 +135,11 @@ run-led : {s z : State} (r : Run KeepingCall s z) (k : ℕ) (t : List Traced) �
 unfolding FollowedTo traced_run edits
 run-led stop k t v K e = known_map K (λ p q. (m : Position) × K p m × (m ≡ q)) t (λ a c b i p h. (end_of lf_at a, h, refl)) e
 run-led (step {s = s} {e = w} h r) k t v K e =
-    let Answered : Position → Position → Type 0 = λ p q. (m : Position) × K p m × ((c : ShiftCall s w m) → c.answer ≡ At q) in
+    let Answered : Position → Position → Type 0 = λ p q. (m : Position) × K p m × ((c : ShiftCall s w m) → c.answer ≡ Ok (Some q)) in
     let small = known_map K (λ p q. K p q × (small_position q ≡ true)) t (λ a c b i p l. (l, place-small h t v a c b i)) e in
     let one = step-known k t w (rw v (keeps_whole h)) (λ p q. K p q × (small_position q ≡ true)) Answered (λ p q m l i. (q, l.0, answers h q m l.1 (rw v at i))) small in
     let u = traced-value k w t ∙ ap (edited_text w) v ∙ text-after h in
-    known_map (λ p q. (m : Position) × Answered p m × FollowedTo r m q) (λ p q. (m : Position) × K p m × ((c : ShiftCall s w m) → (n : Position) × (c.answer ≡ At n) × FollowedTo r n q)) (traced_run (suc k) (traced_by k w t).text (edits r))
+    known_map (λ p q. (m : Position) × Answered p m × FollowedTo r m q) (λ p q. (m : Position) × K p m × ((c : ShiftCall s w m) → (n : Position) × (c.answer ≡ Ok (Some n)) × FollowedTo r n q)) (traced_run (suc k) (traced_by k w t).text (edits r))
     (λ a c b i p l. (l.1.0, l.1.1, λ d. (l.0, l.1.2 d, l.2))) (run-led r (suc k) (traced_by k w t).text u Answered one)
 
 run-text : {s z : State} (r : Run KeepingCall s z) → text_run (text s) (edits r) ≡ text z
@@ -196,7 +196,7 @@ letters_stay_call v e l a h k before behind c p letter =
 
 -- ---- what they say is not empty
 
-at_same : (r : Shifted) (m n : Position) → r ≡ At m → r ≡ At n → m ≡ n
+at_same : (r : Result (Option Position) Refusal) (m n : Position) → r ≡ Ok (Some m) → r ≡ Ok (Some n) → m ≡ n
 at_same r m n e f = cc
 
 pub led_once : LedOnce
@@ -208,7 +208,7 @@ led_once s z (step {s = s₁} {u = u} {e = w} h r) p m n f g =
     let b = g c in
     led_once u z r a.0 m n a.2 (subst (λ (q : Position). FollowedTo r q n) (at_same c.answer b.0 a.0 b.1 a.1) b.2)
 
-was_small : {s : State} {w : Whole ℕ} {u : State} {i : Whole ℕ} → KeepingCall s w u i → (p q : Position) (c : ShiftCall s w p) → c.answer ≡ At q → small_position p ≡ true
+was_small : {s : State} {w : Whole ℕ} {u : State} {i : Whole ℕ} → KeepingCall s w u i → (p q : Position) (c : ShiftCall s w p) → c.answer ≡ Ok (Some q) → small_position p ≡ true
 unfolding position_shifted first_of
 was_small {s} {w} h p q c e = ⊎_elim (λ k. k) (λ k. absurd (no k)) (known (small_position p))
   where

@@ -13,13 +13,13 @@ use Rattle.edit.specs.Call.{Lent, text_of, applied}
 use Rattle.edit.specs.Runs.{Run, stop, step, edits}
 use Rattle.edit.specs.Demand3.{State, text, Beside}
 use Rattle.apply.specs.Demand3.{Call, AcceptedCall}
-use Rattle.shift.specs.declared.Shifted.{Shifted}
-use Rattle.shift.specs.declared.Shifted.TheVariants.{At}
 use Rattle.shift.specs.Answers.{to}
 use Rattle.shift.specs.Call.{position_shifted, ShiftPromised}
 use Rattle.origins.specs.Origins.{Traced, value, lf_at, opened, traced_by, traced_run}
 use Rattle.letters.specs.Keeps.{Keeps}
 use Rattle.letters.specs.Theorems.{Letter}
+use Rattle.std.specs.Prelude.{Result, Ok, Err, Option, Some, None}
+use Rattle.edit.specs.declared.Refusal.{Refusal}
 
 -- ---- one call, as it is defined
 
@@ -35,7 +35,7 @@ LettersStayCall =
 
 -- a call of `shift_position` for p, over edit w of the text at s
 pub record ShiftCall (s : State) (w : Whole ℕ) (p : Position) : Type 0 where
-  pub answer : Shifted
+  pub answer : Result (Option Position) Refusal
   pub promise : ShiftPromised answer s.buffer s.used w.edit w.payload w.first w.second p
 
 -- Every edit at every state has one for every position: what is said of each call is said of some.
@@ -52,7 +52,7 @@ pub record KeepingCall (s : State) (w : Whole ℕ) (u : State) (i : Whole ℕ) :
 -- Whoever calls `shift_position` for p before the first edit, and before each next one for what was answered: it answers a place each time, and q is the last.
 unfoldable pub FollowedTo : {s z : State} → Run KeepingCall s z → Position → Position → Type 0
 FollowedTo stop p q = p ≡ q
-FollowedTo (step {s = s} {e = w} h r) p q = (c : ShiftCall s w p) → (m : Position) × (c.answer ≡ At m) × FollowedTo r m q
+FollowedTo (step {s = s} {e = w} h r) p q = (c : ShiftCall s w p) → (m : Position) × (c.answer ≡ Ok (Some m)) × FollowedTo r m q
 
 pub record LettersFollowed {s z : State} (r : Run KeepingCall s z) : Type 0 where
   -- what is traced is the text that the last call left
@@ -71,7 +71,7 @@ NeverPass stop p q = upto p q ≡ true
 NeverPass (step {s = s} {e = w} h r) p q =
     (upto p q ≡ true)
     × (small_position p ≡ true → small_position q ≡ true → (c : ShiftCall s w p) (d : ShiftCall s w q)
-    → (m : Position) × (n : Position) × (c.answer ≡ At m) × (d.answer ≡ At n) × NeverPass r m n)
+    → (m : Position) × (n : Position) × (c.answer ≡ Ok (Some m)) × (d.answer ≡ Ok (Some n)) × NeverPass r m n)
 
 -- "Two marks in the text may meet but never pass each other."
 abbrev pub CodeMarksMeet : Type 0

@@ -1,7 +1,7 @@
 // One call of `apply_edit_in` or `set_cursor` on arrays that a trial's numbers fill.
 use crate::show::{Done, print_cursor, print_refused};
 use crate::trial::{Call, ITEMS, ROOM, Trial};
-use edit::{Answer, Edit, View};
+use edit::{Applied, Edit, Refusal, View};
 use std::io;
 use text::Position;
 use thin::apply_edit_in;
@@ -93,14 +93,14 @@ fn call(
 // `view` is the one that was lent.
 fn print_answer(
     out: &impl Print,
-    answer: Answer,
+    answer: Result<Applied, Refusal>,
     view: View,
     lent: &Lent,
     is_same: bool,
 ) -> io::Result<()> {
     match answer {
-        Answer::Refused(refusal) => print_refused(out, refusal, is_same),
-        Answer::Done(applied) => println!(out;
+        Err(refusal) => print_refused(out, refusal, is_same),
+        Ok(applied) => println!(out;
             "{}",
             Done {
                 view,

@@ -3,7 +3,7 @@ use crate::calls::Lent;
 use edit::{Applied, Edit, Refusal, View};
 use std::{fmt, io};
 use trials::{Kind, Spot};
-use view::CursorSet;
+use utf8::BadText;
 
 // The most items that are printed.
 const SHORT: usize = 24;
@@ -121,9 +121,9 @@ pub(crate) fn print_refused(out: &impl Print, refusal: Refusal, is_same: bool) -
     println!(out; "refused {number}, {nothing}changed")
 }
 
-pub(crate) fn print_cursor(out: &impl Print, set: CursorSet) -> io::Result<()> {
+pub(crate) fn print_cursor(out: &impl Print, set: Result<View, BadText>) -> io::Result<()> {
     match set {
-        CursorSet::At(view) => println!(out; "set{}", Shown(view)),
-        CursorSet::BadText => println!(out; "refused 1"),
+        Ok(view) => println!(out; "set{}", Shown(view)),
+        Err(BadText) => println!(out; "refused 1"),
     }
 }

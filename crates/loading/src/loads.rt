@@ -54,9 +54,9 @@ pub fn step_text(script: Script, line: &[u8], text: &mut [u32], out: &mut [u8]) 
     let mut second = [0u32; 1];
     let frame = read(line, &mut payload, &mut first, &mut second);
     match frame {
-        FrameRead::Text(count) => load(script, &payload[0..count], text, out),
-        FrameRead::Refused(why) => refuse(script, why, out),
-        FrameRead::Mark(_) => refuse(script, Refusal::BadFrame, out),
-        FrameRead::Edit { .. } => refuse(script, Refusal::BadFrame, out),
+        Ok(FrameRead::Text(count)) => load(script, &payload[0..count], text, out),
+        Err(why) => refuse(script, why, out),
+        Ok(FrameRead::Mark(_)) => refuse(script, Refusal::BadFrame, out),
+        Ok(FrameRead::Edit { .. }) => refuse(script, Refusal::BadFrame, out),
     }
 }

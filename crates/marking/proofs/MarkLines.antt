@@ -14,13 +14,15 @@ use Rattle.hexline.specs.Digits.{hexed}
 use Rattle.hexline.proofs.Theorems.{two_digits}
 use Rattle.frame.specs.Format.{mark, frame_bytes}
 use Rattle.frame.proofs.Inverses.{marks_have_lines}
-use Rattle.writer.specs.declared.Written.{Written}
-use Rattle.writer.specs.Calls.{paper_written, written_into}
+use Rattle.writer.specs.Calls.{written_into}
 use Rattle.printing.specs.Prints.{printed_as}
 use Rattle.printing.proofs.WrittenLines.{line-ended}
 use Rattle.marking.specs.FlatMarks.{mark_in}
 use Rattle.marking.specs.MarkLines.{mark_line}
 use Rattle.marking.proofs.Carrying.{read_dropped, read_kept}
+use Rattle.std.specs.Prelude.{Result, Ok, Err}
+use Rattle.edit.specs.declared.Refusal.{Refusal}
+use Rattle.edit.specs.Call.{paper}
 
 pub dropped_line : (l out t : List ℕ) → get_or l 0 0 ≡ 0 → t ≡ over (printed_as (0x03 ∷ [])) out → (t ≡ over (mark_line (mark_in l)) out) × (3 ≡ length (mark_line (mark_in l)))
 unfolding mark_line hexed
@@ -30,8 +32,8 @@ mark_digits : (m : Sel) → length (hexed (frame_bytes (mark m))) ≡ 34
 unfolding frame_bytes
 mark_digits m = two_digits (frame_bytes (mark m))
 
-pub kept_line : (l out t : List ℕ) (m : Sel) (w : Written) → (get_or l 0 0 ≡ 0 → ⊥) → m ≡ sel (at (get_or l 1 0) (get_or l 2 0)) (at (get_or l 3 0) (get_or l 4 0)) → 35 ≤ length out
-    → outcome (paper_written w) t ≡ written_into (mark m) out → (set t 34 10 ≡ over (mark_line (mark_in l)) out) × (35 ≡ length (mark_line (mark_in l)))
+pub kept_line : (l out t : List ℕ) (m : Sel) (w : Result ℕ Refusal) → (get_or l 0 0 ≡ 0 → ⊥) → m ≡ sel (at (get_or l 1 0) (get_or l 2 0)) (at (get_or l 3 0) (get_or l 4 0)) → 35 ≤ length out
+    → outcome (paper w) t ≡ written_into (mark m) out → (set t 34 10 ≡ over (mark_line (mark_in l)) out) × (35 ≡ length (mark_line (mark_in l)))
 unfolding mark_line
 kept_line l out t m w z q h e =
     let g : mark_in l ≡ to m = read_kept l z ∙ ap to (sym q) in

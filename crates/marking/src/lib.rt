@@ -19,7 +19,7 @@ use edit::Edit;
 pub use ends::in_order;
 use printing::print_byte;
 use select::Sel;
-use shift::{Carried, carry_sel};
+use shift::carry_sel;
 use splice::copy_in;
 use text::{CharOffset, Col, Position, Row};
 use writer::write_mark;
@@ -73,10 +73,9 @@ fn carry_mark(text: &[u32], edit: Edit, payload: &[u32], first: &[u32], mark: &m
     if mark[0] == 0 {
         return;
     }
-    let carried = carry_sel(text, edit, payload, first, sel_in(mark));
-    match carried {
-        Carried::At(sel) => put_mark(mark, sel),
-        Carried::Dropped => drop_mark(mark),
+    match carry_sel(text, edit, payload, first, sel_in(mark)) {
+        Some(sel) => put_mark(mark, sel),
+        None => drop_mark(mark),
     }
 }
 

@@ -1,11 +1,11 @@
 // What the port answers to a case.
 use crate::case::{Case, Shift};
 use edit::{Refusal, View};
-use merge::{Merged, merge_overlapping};
-use select::{RowSpan, Selection};
-use shift::{SelShifted, Shifted, shift_position, shift_sel};
+use merge::merge_overlapping;
+use select::{RowSpan, Sel, Selection};
+use shift::{shift_position, shift_sel};
 use std::io;
-use text::Row;
+use text::{Position, Row};
 use trials::{Spot, position};
 
 // The most numbers that are merged here.
@@ -15,19 +15,19 @@ fn print_refused(out: &impl Print, refusal: Refusal) -> io::Result<()> {
     print!(out; "refused {}", refusal.number())
 }
 
-fn print_shifted(out: &impl Print, answer: Shifted) -> io::Result<()> {
+fn print_shifted(out: &impl Print, answer: Result<Option<Position>, Refusal>) -> io::Result<()> {
     match answer {
-        Shifted::At(pos) => print!(out; "to {}", Spot(pos)),
-        Shifted::Dropped => print!(out; "dropped"),
-        Shifted::Refused(why) => print_refused(out, why),
+        Ok(Some(pos)) => print!(out; "to {}", Spot(pos)),
+        Ok(None) => print!(out; "dropped"),
+        Err(why) => print_refused(out, why),
     }
 }
 
-fn print_sel_shifted(out: &impl Print, answer: SelShifted) -> io::Result<()> {
+fn print_sel_shifted(out: &impl Print, answer: Result<Option<Sel>, Refusal>) -> io::Result<()> {
     match answer {
-        SelShifted::At(sel) => print!(out; "{} {}", Spot(sel.anchor), Spot(sel.head)),
-        SelShifted::Dropped => print!(out; "dropped"),
-        SelShifted::Refused(why) => print_refused(out, why),
+        Ok(Some(sel)) => print!(out; "{} {}", Spot(sel.anchor), Spot(sel.head)),
+        Ok(None) => print!(out; "dropped"),
+        Err(why) => print_refused(out, why),
     }
 }
 
@@ -63,12 +63,12 @@ fn print_numbers(out: &impl Print, numbers: &[u32]) -> io::Result<()> {
 fn replay_merge(out: &impl Print, sels: &[u32]) -> io::Result<()> {
     let mut merged = [0; MERGED];
     match merge_overlapping(sels, &mut merged) {
-        Merged::Count(count) => {
+        Ok(count) => {
             print!(out; "merged {count}")?;
             let numbers = merged.get(..count.saturating_mul(4));
             print_numbers(out, numbers.unwrap_or_default())
         }
-        Merged::Refused(why) => print_refused(out, why),
+        Err(why) => print_refused(out, why),
     }
 }
 

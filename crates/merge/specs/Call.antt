@@ -6,14 +6,9 @@ use Rattle.edit.specs.declared.Refusal.{Refusal}
 use Rattle.edit.specs.declared.Refusal.TheVariants.{TooMany, BadPayload, NoRecord}
 use Rattle.edit.specs.Call.{number_of, offset_of, first_of}
 use Rattle.select.specs.declared.Sel.{Sel}
-use Rattle.merge.specs.declared.Merged.{Merged}
-use Rattle.merge.specs.declared.Merged.TheVariants as merged_as
 use Rattle.sorting.specs.Flat.{flat, sels}
 use Rattle.merge.specs.Merging.{merged}
-
-abbrev pub paper_merged : Merged → Paper ℕ
-paper_merged (merged_as.Count n) = done n
-paper_merged (merged_as.Refused r) = refused (number_of r) (offset_of r)
+use Rattle.std.specs.Prelude.{Result, Ok, Err}
 
 -- 3 TooMany: "selections over its limit", which is "up to 4,096 numbers (1,024 selections, four to each)"; 4 BadPayload:
 -- "selections not in fours"; 9 NoRecord: "merge output shorter than input", whatever would merge

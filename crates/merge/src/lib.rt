@@ -4,7 +4,8 @@
 mod collapsing;
 
 ghost use Rattle.std.specs.Prelude.{◌≡◌};
-ghost use Rattle.merge.specs.Call.{paper_merged, outcome, merged_in};
+ghost use Rattle.merge.specs.Call.{outcome, merged_in};
+ghost use Rattle.edit.specs.Call.{paper};
 
 use crate::collapsing::collapse;
 use edit::Refusal;
@@ -13,30 +14,24 @@ use sorting::{copy, sort};
 // The most numbers that are merged, four to a selection.
 pub const NUMBERS_LIMIT: usize = 4_096;
 
-// How many selections stand in the output, or the refusal.
-#[derive(Clone, Copy)]
-pub enum Merged {
-    Count(usize),
-    Refused(Refusal),
-}
-
-// The selections sorted by start, with those merged that share a position, at the front of `out`.
-pub fn merge_overlapping(sels: &[u32], out: &mut [u32]) -> Merged
-    ensures { outcome (paper_merged result) out.new ≡ merged_in sels.now out.old }
+// The selections sorted by start, with those merged that share a position, at the front of `out`; how many
+// are left.
+pub fn merge_overlapping(sels: &[u32], out: &mut [u32]) -> Result<usize, Refusal>
+    ensures { outcome (paper result) out.new ≡ merged_in sels.now out.old }
 {
     let len = sels.len();
     if NUMBERS_LIMIT < len {
-        return Merged::Refused(Refusal::TooMany);
+        return Err(Refusal::TooMany);
     }
     if len % 4 != 0 {
-        return Merged::Refused(Refusal::BadPayload);
+        return Err(Refusal::BadPayload);
     }
     if out.len() < len {
-        return Merged::Refused(Refusal::NoRecord);
+        return Err(Refusal::NoRecord);
     }
     let mut work = [0u32; NUMBERS_LIMIT];
     let mut spare = [0u32; NUMBERS_LIMIT];
     copy(sels, &mut work);
     sort(&mut work[0..len], len / 4, &mut spare);
-    Merged::Count(collapse(&work[0..len], len / 4, out))
+    Ok(collapse(&work[0..len], len / 4, out))
 }

@@ -9,7 +9,7 @@ ghost use Rattle.place.specs.Places.{mark_limit, mark_ok, judged, seen};
 
 use forms::head_of;
 use frame::{BYTE_LIMIT, Head, SHORT_BYTES, SHORT_LINE};
-use hexline::{Unhexed, unhex};
+use hexline::unhex;
 use rows::contains;
 use select::Sel;
 
@@ -63,9 +63,8 @@ fn head_in(line: &[u8], bytes: &mut [u8]) -> Head
 {
     let unhexed = unhex(line, bytes);
     match unhexed {
-        Unhexed::Octets(count) => head_of(&bytes[0..count]),
-        Unhexed::BadFrame => Head::Malformed,
-        Unhexed::NoRoom => Head::Malformed,
+        Ok(count) => head_of(&bytes[0..count]),
+        Err(_) => Head::Malformed,
     }
 }
 

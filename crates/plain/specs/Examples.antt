@@ -1,13 +1,11 @@
 -- What rules out wrong records: each line is what the promise asks for at one input, and above it stands the program that tells something else.
 use Rattle.std.specs.Prelude.{◌≡◌, true, false, ℕ}
-use Rattle.std.proofs.Math.Option.{some}
+use Rattle.std.specs.Prelude.{Some}
 use Rattle.promise.specs.Paper.{done, refused}
 use Rattle.utf8.specs.declared.Decoded.TheVariants.{NoRoom}
 use Rattle.utf8.specs.Answers.{paper_decoded}
 use Rattle.text.specs.Rows.{at}
-use Rattle.text.specs.declared.Clamped.TheVariants.{BadText}
 use Rattle.text.specs.Answers.{paper_clamped}
-use Rattle.fit.specs.declared.BoxFit.TheVariants.{TooBig}
 use Rattle.fit.specs.Calls.{all_fit, paper_box_fit}
 use Rattle.select.specs.declared.Selection.TheVariants as as_selection
 use Rattle.select.specs.Answers.{between}
@@ -19,22 +17,27 @@ use Rattle.edit.specs.Edits.{row_at}
 use Rattle.plain.specs.declared.Numbers.{Numbers}
 use Rattle.plain.specs.Meanings.{meant, numbers_of}
 use Rattle.plain.specs.Told.{told_count, told_done, told_clamped, told_fit, told_span, told_bounds, ends_of, told_view, told_line, no_line}
+use Rattle.std.specs.Prelude.{Result, Ok, Err, Option, Some, None}
+use Rattle.text.specs.declared.Position.{Position}
+use Rattle.utf8.specs.declared.BadText.{BadText}
+use Rattle.fit.specs.declared.BoxError.{BoxError}
+use Rattle.fit.specs.declared.BoxError.TheVariants as box_error
 
 abbrev pub of_kind : ℕ → Numbers
 of_kind k = record { kind = k; start = at 1 2; end = at 3 4; count = 5 }
 
 pub record RuledOut : Type 0 where
   -- a Line delete meant, or told, as a Char delete
-  pub lines : meant (of_kind 3) ≡ some (DeleteRange (at 1 2) (at 3 4) Lines)
+  pub lines : meant (of_kind 3) ≡ Some (DeleteRange (at 1 2) (at 3 4) Lines)
   pub lines_told : (numbers_of (DeleteRange (at 1 2) (at 3 4) Lines)).kind ≡ 3
   -- a join with spaces meant as one without, or at the row of the other end
-  pub spaced : meant (of_kind 6) ≡ some (JoinLines (row_at 1) 5 true)
+  pub spaced : meant (of_kind 6) ≡ Some (JoinLines (row_at 1) 5 true)
   -- as much told of the payload as of the first list
   pub payload : (told_done (record { view = record { used = 0; cursor = at 0 0; changes = 0 }; inverse = JoinLines (row_at 1) 5 true; payload = 1; first = 2; second = 3 })).payload ≡ 1
   -- that all rows fit told as refusal 1, a box that is too big as fitting or as 1; what is no text told as a position that is not there
   pub fits : told_fit (done all_fit) ≡ record { refusal = 0; found = false; at = at 0 0 }
-  pub too_big : told_fit (paper_box_fit TooBig) ≡ record { refusal = 2; found = false; at = at 0 0 }
-  pub no_text : told_clamped (paper_clamped BadText) ≡ record { refusal = 1; found = false; at = at 0 0 }
+  pub too_big : told_fit (paper_box_fit (Err box_error.TooBig)) ≡ record { refusal = 2; found = false; at = at 0 0 }
+  pub no_text : told_clamped (paper_clamped (Err (record {}))) ≡ record { refusal = 1; found = false; at = at 0 0 }
   -- 8 told as 9
   pub no_room : told_count (paper_decoded NoRoom) ≡ record { refusal = 8; offset = 0; count = 0 }
   -- a closed span told to end where it begins

@@ -1,6 +1,5 @@
 -- Edits and selections by the number of their kind. A kind that is none means nothing.
-use Rattle.std.specs.Prelude.{true, false, List, [], ◌∷◌, ℕ, zero, suc}
-use Rattle.std.proofs.Math.Option.{Option, none, some}
+use Rattle.std.specs.Prelude.{true, false, Option, Some, None, List, [], ◌∷◌, ℕ, zero, suc}
 use Rattle.text.specs.declared.Position.{Position}
 use Rattle.text.specs.declared.Row.{Row}
 use Rattle.text.specs.Rows.{at}
@@ -12,15 +11,11 @@ use Rattle.select.specs.declared.Sel.{Sel}
 use Rattle.select.specs.declared.Selection.{Selection}
 use Rattle.select.specs.declared.Selection.TheVariants as as_selection
 use Rattle.plain.specs.declared.Numbers.{Numbers}
-use Rattle.plain.specs.declared.MeantEdit.{MeantEdit}
-use Rattle.plain.specs.declared.MeantEdit.TheVariants as as_edit
-use Rattle.plain.specs.declared.MeantSelection.{MeantSelection}
-use Rattle.plain.specs.declared.MeantSelection.TheVariants as as_meant
 
 -- the item of this number, if there is one
 unfoldable pub item : {A : Type 0} → List A → ℕ → Option A
-item [] k = none
-item (x ∷ xs) zero = some x
+item [] k = None
+item (x ∷ xs) zero = Some x
 item (x ∷ xs) (suc k) = item xs k
 
 -- the kinds in their order
@@ -42,17 +37,9 @@ edits n =
 abbrev pub meant : Numbers → Option Edit
 meant n = item (edits n) n.kind
 
-abbrev pub paper_meant : MeantEdit → Option Edit
-paper_meant (as_edit.Edit e) = some e
-paper_meant as_edit.NoKind = none
-
 abbrev pub selections : Sel → List Selection
 selections s =
     as_selection.Char s.anchor s.head ∷ as_selection.Line s.anchor.row s.head.row ∷ as_selection.Block s.anchor s.head ∷ []
-
-abbrev pub paper_selection : MeantSelection → Option Selection
-paper_selection (as_meant.Selection s) = some s
-paper_selection as_meant.NoKind = none
 
 -- ---- an edit's numbers: what the kind does not use is 0
 

@@ -4,17 +4,17 @@ ghost use Rattle.promise.specs.Paper.{done, refused};
 ghost use Rattle.utf8.specs.Answers.{paper_decoded, paper_encoded};
 ghost use Rattle.text.specs.Answers.{paper_clamped};
 ghost use Rattle.fit.specs.Calls.{paper_box_fit};
-ghost use Rattle.edit.specs.Call.{number_of, offset_of, paper_answer};
+ghost use Rattle.edit.specs.Call.{paper, number_of, offset_of};
 ghost use Rattle.select.specs.Answers.{paper_row_span};
 ghost use Rattle.plain.specs.Told.{told_count, told_done, told_applied, found_at, not_found, told_clamped, told_fit, found_sel, no_sel, no_cover, told_span, no_bounds, told_bounds, ends_of, told_line, no_line};
 
 use crate::edits::{no_edit, origin, told_edit};
 use crate::{Bounds, Change, Count, Cover, EditLine, Found, SelFound};
-use edit::{Answer, Applied, Edit, Refusal, View};
-use fit::BoxFit;
+use edit::{Applied, Edit, Refusal, View};
+use fit::BoxError;
 use select::{RowBounds, RowSpan, Sel, Selection};
-use text::{Clamped, Position};
-use utf8::{Decoded, Encoded};
+use text::Position;
+use utf8::{BadText, DecodeError, EncodeError};
 
 fn offset_of(why: Refusal) -> usize
     ensures { result ≡ offset_of why }
@@ -149,52 +149,52 @@ pub fn not_changed(view: View, why: Refusal) -> Change
 }
 
 // What is told of an edit of the view.
-pub fn told_answer(view: View, answer: Answer) -> Change
-    ensures { result ≡ told_applied view (paper_answer answer) }
+pub fn told_answer(view: View, answer: Result<Applied, Refusal>) -> Change
+    ensures { result ≡ told_applied view (paper answer) }
 {
     match answer {
-        Answer::Done(applied) => changed(applied),
-        Answer::Refused(why) => not_changed(view, why),
+        Ok(applied) => changed(applied),
+        Err(why) => not_changed(view, why),
     }
 }
 
-pub fn told_decoded(decoded: Decoded) -> Count
+pub fn told_decoded(decoded: Result<usize, DecodeError>) -> Count
     ensures { result ≡ told_count (paper_decoded decoded) }
 {
     match decoded {
-        Decoded::Scalars(n) => counted(n),
-        Decoded::BadUtf8(at) => not_counted(Refusal::BadUtf8(at)),
-        Decoded::NoRoom => not_counted(Refusal::NoRoom),
+        Ok(n) => counted(n),
+        Err(DecodeError::BadUtf8(at)) => not_counted(Refusal::BadUtf8(at)),
+        Err(DecodeError::NoRoom) => not_counted(Refusal::NoRoom),
     }
 }
 
-pub fn told_encoded(encoded: Encoded) -> Count
+pub fn told_encoded(encoded: Result<usize, EncodeError>) -> Count
     ensures { result ≡ told_count (paper_encoded encoded) }
 {
     match encoded {
-        Encoded::Octets(n) => counted(n),
-        Encoded::BadText => not_counted(Refusal::BadText),
-        Encoded::NoRoom => not_counted(Refusal::NoRoom),
+        Ok(n) => counted(n),
+        Err(EncodeError::BadText) => not_counted(Refusal::BadText),
+        Err(EncodeError::NoRoom) => not_counted(Refusal::NoRoom),
     }
 }
 
-pub fn told_clamped(clamped: Clamped) -> Found
+pub fn told_clamped(clamped: Result<Position, BadText>) -> Found
     ensures { result ≡ told_clamped (paper_clamped clamped) }
 {
     match clamped {
-        Clamped::At(at) => found_at(at),
-        Clamped::BadText => not_found(1),
+        Ok(at) => found_at(at),
+        Err(BadText) => not_found(1),
     }
 }
 
-pub fn told_fit(fit: BoxFit) -> Found
+pub fn told_fit(fit: Result<Option<Position>, BoxError>) -> Found
     ensures { result ≡ told_fit (paper_box_fit fit) }
 {
     match fit {
-        BoxFit::AllFit => not_found(0),
-        BoxFit::Leaves(at) => found_at(at),
-        BoxFit::BadText => not_found(1),
-        BoxFit::TooBig => not_found(2),
+        Ok(None) => not_found(0),
+        Ok(Some(at)) => found_at(at),
+        Err(BoxError::BadText) => not_found(1),
+        Err(BoxError::TooBig) => not_found(2),
     }
 }
 

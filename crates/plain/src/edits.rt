@@ -1,16 +1,16 @@
 // Edits and selections by the number of their kind.
 ghost use Rattle.std.specs.Prelude.{◌≡◌};
 ghost use Rattle.text.specs.Rows.{at};
-ghost use Rattle.plain.specs.Meanings.{item, meant, paper_meant, selections, paper_selection, at_ends, at_place, at_row, range_kind, numbers_of};
+ghost use Rattle.plain.specs.Meanings.{item, meant, selections, at_ends, at_place, at_row, range_kind, numbers_of};
 
-use crate::{MeantEdit, MeantSelection, Numbers};
+use crate::Numbers;
 use edit::{Edit, MotionKind};
 use select::{Sel, Selection};
 use text::{Col, Position, Row};
 
 // The edit that the numbers mean: the kinds in their order.
-pub fn meant_edit(numbers: Numbers) -> MeantEdit
-    ensures { paper_meant result ≡ meant numbers }
+pub fn meant_edit(numbers: Numbers) -> Option<Edit>
+    ensures { result ≡ meant numbers }
 {
     let kind = numbers.kind;
     let start = numbers.start;
@@ -18,38 +18,38 @@ pub fn meant_edit(numbers: Numbers) -> MeantEdit
     let row = start.row;
     let count = numbers.count;
     match kind {
-        0 => MeantEdit::Edit(Edit::InsertChar { at: start }),
-        1 => MeantEdit::Edit(Edit::InsertStr { at: start }),
-        2 => MeantEdit::Edit(Edit::DeleteRange {
+        0 => Some(Edit::InsertChar { at: start }),
+        1 => Some(Edit::InsertStr { at: start }),
+        2 => Some(Edit::DeleteRange {
             start,
             end,
             kind: MotionKind::Char,
         }),
-        3 => MeantEdit::Edit(Edit::DeleteRange {
+        3 => Some(Edit::DeleteRange {
             start,
             end,
             kind: MotionKind::Line,
         }),
-        4 => MeantEdit::Edit(Edit::DeleteRange {
+        4 => Some(Edit::DeleteRange {
             start,
             end,
             kind: MotionKind::Block,
         }),
-        5 => MeantEdit::Edit(Edit::JoinLines {
+        5 => Some(Edit::JoinLines {
             row,
             count,
             with_space: false,
         }),
-        6 => MeantEdit::Edit(Edit::JoinLines {
+        6 => Some(Edit::JoinLines {
             row,
             count,
             with_space: true,
         }),
-        7 => MeantEdit::Edit(Edit::SplitLines { row }),
-        8 => MeantEdit::Edit(Edit::Replace { start, end }),
-        9 => MeantEdit::Edit(Edit::InsertBlock { at: start }),
-        10 => MeantEdit::Edit(Edit::DeleteBlockChunks { at: start }),
-        _ => MeantEdit::NoKind,
+        7 => Some(Edit::SplitLines { row }),
+        8 => Some(Edit::Replace { start, end }),
+        9 => Some(Edit::InsertBlock { at: start }),
+        10 => Some(Edit::DeleteBlockChunks { at: start }),
+        _ => None,
     }
 }
 
@@ -140,22 +140,22 @@ pub fn told_edit(edit: Edit) -> Numbers
 }
 
 // The selection that the kind means, with these ends.
-pub fn meant_selection(kind: u32, sel: Sel) -> MeantSelection
-    ensures { paper_selection result ≡ item (selections sel) kind }
+pub fn meant_selection(kind: u32, sel: Sel) -> Option<Selection>
+    ensures { result ≡ item (selections sel) kind }
 {
     let anchor = sel.anchor;
     let head = sel.head;
     match kind {
-        0 => MeantSelection::Selection(Selection::Char { anchor, head }),
+        0 => Some(Selection::Char { anchor, head }),
         1 => {
             let anchor_row = anchor.row;
             let head_row = head.row;
-            MeantSelection::Selection(Selection::Line {
+            Some(Selection::Line {
                 anchor_row,
                 head_row,
             })
         }
-        2 => MeantSelection::Selection(Selection::Block { anchor, head }),
-        _ => MeantSelection::NoKind,
+        2 => Some(Selection::Block { anchor, head }),
+        _ => None,
     }
 }

@@ -24,20 +24,6 @@ pub struct Numbers {
     pub count: u32,
 }
 
-// The edit that some numbers mean.
-#[derive(Clone, Copy)]
-pub enum MeantEdit {
-    Edit(Edit),
-    NoKind,
-}
-
-// The selection that a kind with two ends means.
-#[derive(Clone, Copy)]
-pub enum MeantSelection {
-    Selection(Selection),
-    NoKind,
-}
-
 // How many elements stand at the front of the output.
 #[repr(C)]
 #[derive(Clone, Copy)]

@@ -5,25 +5,25 @@ ghost use Rattle.std.specs.Prelude.{◌≡◌, ℕ, ◌+◌, ◌%◌, ◌^◌, �
 ghost use Rattle.text.specs.Rows.{◌⊕◌, end_of};
 ghost use Rattle.text.specs.Text.{is_lf, text_limit};
 ghost use Rattle.edit.specs.Edits.{Edited};
-ghost use Rattle.edit.specs.Call.{paper_verdict, verdict_of, result_tests, plan_of};
+ghost use Rattle.edit.specs.Call.{paper, verdict_of, result_tests, plan_of};
 
-use edit::{Plan, Refusal, Room, Verdict, View};
+use edit::{Plan, Refusal, Room, View};
 use text::{Col, Position, Row, TEXT_LIMIT};
 
 // Rows 7 to 9, for whatever edit has this plan.
-pub fn judge(within: bool, room: Room, plan: Plan) -> Verdict
-    ensures { (d : Edited ℕ) → plan_of d ≡ plan → paper_verdict result ≡ verdict_of (result_tests within room d) }
+pub fn judge(within: bool, room: Room, plan: Plan) -> Result<(), Refusal>
+    ensures { (d : Edited ℕ) → plan_of d ≡ plan → paper result ≡ verdict_of (result_tests within room d) }
 {
     if !within {
-        return Verdict::Bad(Refusal::BeyondRow);
+        return Err(Refusal::BeyondRow);
     }
     if (room.buffer < plan.used) | (TEXT_LIMIT < plan.used) {
-        return Verdict::Bad(Refusal::NoRoom);
+        return Err(Refusal::NoRoom);
     }
     if (room.payload < plan.payload) | (room.first < plan.first) | (room.second < plan.second) {
-        return Verdict::Bad(Refusal::NoRecord);
+        return Err(Refusal::NoRecord);
     }
-    Verdict::Fine
+    Ok(())
 }
 
 // Where a text ends that stands at `pos`.

@@ -13,7 +13,7 @@ ghost use Rattle.printing.specs.Prints.{printed_as};
 
 use edit::{Edit, Refusal};
 use hexline::hex;
-use writer::{Written, write_edit, write_text};
+use writer::{write_edit, write_text};
 
 const LF: u8 = 10;
 
@@ -54,11 +54,8 @@ pub fn print_inverse(
     ensures { (out.new ≡ over (printed_as (0 ∷ frame_bytes (edit_frame (whole inverse payload.now first.now second.now)))) out.old) × (result ≡ length (printed_as (0 ∷ frame_bytes (edit_frame (whole inverse payload.now first.now second.now))))) }
 {
     print_byte(0, out);
-    let written = write_edit(inverse, payload, first, second, &mut out[2..]);
-    match written {
-        Written::Digits(count) => end_line(count + 2, out),
-        Written::Refused(_) => 0,
-    }
+    let count = write_edit(inverse, payload, first, second, &mut out[2..]).unwrap();
+    end_line(count + 2, out)
 }
 
 // The frame of a text, which a line holds.
@@ -66,9 +63,6 @@ pub fn print_text(text: &[u32], out: &mut [u8]) -> usize
     requires { (36_867 ≤ length out.old) × (line_of (text_frame text.now) ≡ done (hexed (frame_bytes (text_frame text.now)))) }
     ensures { (out.new ≡ over (printed_as (frame_bytes (text_frame text.now))) out.old) × (result ≡ length (printed_as (frame_bytes (text_frame text.now)))) }
 {
-    let written = write_text(text, out);
-    match written {
-        Written::Digits(count) => end_line(count, out),
-        Written::Refused(_) => 0,
-    }
+    let count = write_text(text, out).unwrap();
+    end_line(count, out)
 }

@@ -1,10 +1,14 @@
 -- A well-formed string, decoded behind what the payload holds already.
-use mathlib.Core.Path.{◌≡◌, ap, ◌∙◌}
+use mathlib.Core.Path.{◌≡◌, refl, ap, ◌∙◌}
 use mathlib.Core.List.{List, [], ◌∷◌, ◌++◌, append_assoc}
 use Prim.Native.Nat.{ℕ, ◌-◌, ◌≤◌}
 use native.Mathlib.Omega.{arith}
 use lib.ListN.{length, take, drop, length-append, length-drop}
 use lib.Seq.{paste, take-length, drop-drop}
+use Rattle.std.specs.Prelude.{Result, Ok, Err, IsOk}
+use Rattle.utf8.specs.declared.DecodeError.{DecodeError}
+use Rattle.utf8.specs.declared.DecodeError.TheVariants as decode_error
+use Rattle.utf8.specs.Answers.{paper_decoded}
 use Rattle.promise.specs.Paper.{Paper, done, refused}
 use Rattle.promise.specs.Slices.{over}
 use Rattle.promise.proofs.Lists.{tail_whole, tail_back}
@@ -46,3 +50,8 @@ module _ (s p : List ℕ) (from : ℕ) (y : List ℕ) (h : from ≤ length p) (g
   behind-refused n k e =
       let a : refused n k ≡ done (length (scalars_of (reading s))) = ap (λ (o : Outcome). o.answer) (e ∙ decoded-whole) in
       let z : ◌≡◌ {A = ℕ} 0 1 = cc in omega arith
+
+  pub behind_ok : (r : Result ℕ DecodeError) → Behind (paper_decoded r) → IsOk r
+  behind_ok (Ok n) e = refl
+  behind_ok (Err (decode_error.BadUtf8 at)) e = absurd (behind-refused 5 at.0 e)
+  behind_ok (Err decode_error.NoRoom) e = absurd (behind-refused 8 0 e)

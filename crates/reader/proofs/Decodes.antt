@@ -8,6 +8,11 @@ use native.Mathlib.Omega.{arith}
 use borrow.Author.Tests.{le-leb, lt-leb, lt-ltb}
 use lib.Dec.{ltb}
 use lib.ListN.{length, take, drop, length-append, length-drop}
+use Rattle.std.specs.Prelude.{Err}
+use Rattle.utf8.specs.declared.DecodeError.{DecodeError}
+use Rattle.utf8.specs.declared.DecodeError.TheVariants as decode_error
+use Rattle.utf8.specs.Answers.{paper_decoded}
+use Rattle.edit.specs.Errors.{decode_refusal}
 use Rattle.promise.specs.Paper.{Paper, done, refused}
 use Rattle.promise.specs.Slices.{over}
 use Rattle.promise.proofs.Lists.{tail_whole}
@@ -16,7 +21,7 @@ use Rattle.utf8.specs.Calls.{Outcome, outcome, stored, decoded}
 use Rattle.utf8.proofs.Theorems.{bad_places, stored-room}
 use Rattle.edit.specs.declared.Edit.{Edit}
 use Rattle.frame.specs.Reads.{Contents, chars, bad_from, ahead, contents, first_list, text_of, edit_of}
-use Rattle.reader.specs.Calls.{Read, text, edit, filled, frame_into, read_into, chars_into}
+use Rattle.reader.specs.Calls.{paper_read, Read, text, edit, filled, frame_into, read_into, chars_into}
 use Rattle.reader.proofs.Rooms.{edit_fits, payload_short}
 
 -- a bad sequence starts within the string
@@ -133,3 +138,13 @@ string_read e (chars xs) a x t f s l q =
           ap (λ (o : Outcome). filled (as_edit e o.answer) o.out f s) (q ∙ stored_short (flatten xs) x k)
           ∙ rw (l xs) (payload_short e (flatten xs) [] [] x f s k))
     ]
+
+-- what is not decoded is no frame
+pub text_refused : (e : DecodeError) (c : Contents) (x t f s : List ℕ) → outcome (paper_decoded (Err e)) t ≡ chars_into c x → filled (paper_read (Err (decode_refusal e))) t f s ≡ read_into (text_of c) x f s
+text_refused (decode_error.BadUtf8 at) c x t f s q = text-read c (refused 5 at.0) x t f s q
+text_refused decode_error.NoRoom c x t f s q = text-read c (refused 8 0) x t f s q
+
+pub string_refused : (d : DecodeError) (e : Edit) (c : Contents) (x t f s : List ℕ) → ((xs : List (List ℕ)) → first_list e xs [] ≡ []) → outcome (paper_decoded (Err d)) t ≡ chars_into c x
+    → filled (paper_read (Err (decode_refusal d))) t f s ≡ read_into (edit_of e [] [] c) x f s
+string_refused (decode_error.BadUtf8 at) e c x t f s l q = string_read e c (refused 5 at.0) x t f s l q
+string_refused decode_error.NoRoom e c x t f s l q = string_read e c (refused 8 0) x t f s l q

@@ -1,6 +1,9 @@
 -- What the reader answers, and leaves in the slices lent for a frame's payload and lists.
 use Rattle.std.specs.Prelude.{cond, ◌&&◌, ◌≡◌, ℕ, ◌≤◌, leb, length}
 use mathlib.Core.List.{List, [], flatten}
+use Rattle.std.specs.Prelude.{Result, Ok, Err}
+use Rattle.utf8.specs.declared.BadUtf8.{BadUtf8}
+use Rattle.edit.specs.declared.Refusal.{Refusal}
 use Rattle.promise.specs.Paper.{Paper, done, refused}
 use Rattle.promise.specs.Slices.{over}
 use Rattle.edit.specs.declared.Edit.{Edit}
@@ -14,7 +17,6 @@ use Rattle.frame.specs.Reads.{Contents, chars, bad_from}
 use Rattle.reader.specs.declared.FrameRead.{FrameRead}
 use Rattle.reader.specs.declared.FrameRead.TheVariants as as_read
 use Rattle.reader.specs.declared.Tally.{Tally}
-use Rattle.reader.specs.declared.Tally.TheVariants as as_tally
 
 -- a frame without what stands in the slices: how much of each it takes
 pub data Read : Type 0 where
@@ -22,11 +24,14 @@ pub data Read : Type 0 where
   mark : Sel → Read
   edit : Edit → ℕ → ℕ → ℕ → Read
 
-abbrev pub paper_read : FrameRead → Paper Read
-paper_read (as_read.Text n) = done (text n)
-paper_read (as_read.Mark m) = done (mark m)
-paper_read (as_read.Edit e x f s) = done (edit e x f s)
-paper_read (as_read.Refused r) = refused (number_of r) (offset_of r)
+abbrev pub read_of : FrameRead → Read
+read_of (as_read.Text n) = text n
+read_of (as_read.Mark m) = mark m
+read_of (as_read.Edit e x f s) = edit e x f s
+
+abbrev pub paper_read : Result FrameRead Refusal → Paper Read
+paper_read (Ok g) = done (read_of g)
+paper_read (Err r) = refused (number_of r) (offset_of r)
 
 -- the answer, and the lent slices at exit
 pub record Filled : Type 0 where
@@ -66,9 +71,9 @@ chars_of (chars xs) = xs
 chars_of (bad_from k) = []
 
 -- how many strings and how many characters
-abbrev pub paper_tally : Tally → Paper (ℕ × ℕ)
-paper_tally (as_tally.Counted n m) = done (n, m)
-paper_tally (as_tally.BadUtf8 at) = refused 5 at.0
+abbrev pub paper_tally : Result Tally BadUtf8 → Paper (ℕ × ℕ)
+paper_tally (Ok t) = done (t.chunks, t.chars)
+paper_tally (Err e) = refused 5 e.0.0
 
 unfoldable pub tallied : Contents → Paper (ℕ × ℕ)
 tallied (chars xs) = done (length xs, length (flatten xs))

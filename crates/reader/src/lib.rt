@@ -19,11 +19,10 @@ use crate::strings::{read_chunks, read_string, read_text};
 use edit::{Edit, Refusal};
 use forms::head_of;
 use frame::{BYTE_LIMIT, Head, SHORT_BYTES, SHORT_LINE};
-use hexline::{Unhexed, unhex};
+use hexline::{UnhexError, unhex};
 use select::Sel;
-use utf8::ByteOffset;
 
-// A frame, with how much of the payload's and the lists' slices it takes; or the refusal.
+// A frame, with how much of the payload's and the lists' slices it takes.
 #[derive(Clone, Copy)]
 pub enum FrameRead {
     Text(usize),
@@ -34,26 +33,25 @@ pub enum FrameRead {
         first: usize,
         second: usize,
     },
-    Refused(Refusal),
 }
 
 // How many strings a block has, and how many characters they have together.
 #[derive(Clone, Copy)]
-enum Tally {
-    Counted { chunks: usize, chars: usize },
-    BadUtf8(ByteOffset),
+struct Tally {
+    chunks: usize,
+    chars: usize,
 }
 
 // An edit without payload and lists.
-fn bare(edit: Edit) -> FrameRead
+fn bare(edit: Edit) -> Result<FrameRead, Refusal>
     ensures { (x f s : List ℕ) → filled (paper_read result) x f s ≡ read_into (done (format.edit (whole edit [] [] []))) x f s }
 {
-    FrameRead::Edit {
+    Ok(FrameRead::Edit {
         edit,
         payload: 0,
         first: 0,
         second: 0,
-    }
+    })
 }
 
 // The payload and the lists of an edit whose form is sound.
@@ -63,12 +61,12 @@ fn read_edit(
     payload: &mut [u32],
     first: &mut [u32],
     second: &mut [u32],
-) -> FrameRead
+) -> Result<FrameRead, Refusal>
     requires { head_of (form_of bytes.now) ≡ as_head.Edit edit }
     ensures { filled (paper_read result) payload.new first.new second.new ≡ read_into (read_form (form_of bytes.now)) payload.old first.old second.old }
 {
     match edit {
-        Edit::InsertChar { .. } => FrameRead::Refused(Refusal::BadFrame),
+        Edit::InsertChar { .. } => Err(Refusal::BadFrame),
         Edit::InsertStr { .. } => read_string(edit, bytes, 9, payload),
         Edit::DeleteRange { .. } => bare(edit),
         Edit::JoinLines { .. } => bare(edit),
@@ -79,14 +77,14 @@ fn read_edit(
     }
 }
 
-fn read_bytes(bytes: &[u8], payload: &mut [u32], first: &mut [u32], second: &mut [u32]) -> FrameRead
+fn read_bytes(bytes: &[u8], payload: &mut [u32], first: &mut [u32], second: &mut [u32]) -> Result<FrameRead, Refusal>
     ensures { filled (paper_read result) payload.new first.new second.new ≡ read_into (read_form (form_of bytes.now)) payload.old first.old second.old }
 {
     let head = head_of(bytes);
     match head {
-        Head::Malformed => FrameRead::Refused(Refusal::BadFrame),
+        Head::Malformed => Err(Refusal::BadFrame),
         Head::Text => read_text(bytes, payload),
-        Head::Mark(sel) => FrameRead::Mark(sel),
+        Head::Mark(sel) => Ok(FrameRead::Mark(sel)),
         Head::Edit(edit) => read_edit(edit, bytes, payload, first, second),
     }
 }
@@ -98,21 +96,21 @@ fn read_line(
     payload: &mut [u32],
     first: &mut [u32],
     second: &mut [u32],
-) -> FrameRead
+) -> Result<FrameRead, Refusal>
     requires { length line.now ≤ digit_limit → length line.now ≤ 2 * length bytes.old }
     ensures { filled (paper_read result) payload.new first.new second.new ≡ read_into (frame_read line.now) payload.old first.old second.old }
 {
     let unhexed = unhex(line, bytes);
     match unhexed {
-        Unhexed::Octets(count) => read_bytes(&bytes[0..count], payload, first, second),
-        Unhexed::BadFrame => FrameRead::Refused(Refusal::BadFrame),
+        Ok(count) => read_bytes(&bytes[0..count], payload, first, second),
+        Err(UnhexError::BadFrame) => Err(Refusal::BadFrame),
         // There is room, so this does not come.
-        Unhexed::NoRoom => FrameRead::Refused(Refusal::NoRoom),
+        Err(UnhexError::NoRoom) => Err(Refusal::NoRoom),
     }
 }
 
 // The frame that a line is.
-pub fn read(line: &[u8], payload: &mut [u32], first: &mut [u32], second: &mut [u32]) -> FrameRead
+pub fn read(line: &[u8], payload: &mut [u32], first: &mut [u32], second: &mut [u32]) -> Result<FrameRead, Refusal>
     ensures { filled (paper_read result) payload.new first.new second.new ≡ read_into (frame_read line.now) payload.old first.old second.old }
 {
     if line.len() <= SHORT_LINE {

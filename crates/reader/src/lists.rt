@@ -47,43 +47,43 @@ fn fill_flags(bytes: &[u8], out: &mut [u32])
 }
 
 // A split's columns and flags.
-pub fn read_columns(edit: Edit, bytes: &[u8], first: &mut [u32], second: &mut [u32]) -> FrameRead
+pub fn read_columns(edit: Edit, bytes: &[u8], first: &mut [u32], second: &mut [u32]) -> Result<FrameRead, Refusal>
     ensures { (x : List ℕ) → filled (paper_read result) x first.new second.new ≡ read_into (done (format.edit (whole edit [] (columns_in bytes.now) (flags_in bytes.now)))) x first.old second.old }
 {
     let count = bytes.len() / 5;
     if first.len() < count {
-        return FrameRead::Refused(Refusal::NoRoom);
+        return Err(Refusal::NoRoom);
     }
     if second.len() < count {
-        return FrameRead::Refused(Refusal::NoRoom);
+        return Err(Refusal::NoRoom);
     }
     fill_numbers(bytes, 5, 0, first);
     fill_flags(bytes, second);
-    FrameRead::Edit {
+    Ok(FrameRead::Edit {
         edit,
         payload: 0,
         first: count,
         second: count,
-    }
+    })
 }
 
 // The widths and pads of chunks.
-pub fn read_widths(edit: Edit, bytes: &[u8], first: &mut [u32], second: &mut [u32]) -> FrameRead
+pub fn read_widths(edit: Edit, bytes: &[u8], first: &mut [u32], second: &mut [u32]) -> Result<FrameRead, Refusal>
     ensures { (x : List ℕ) → filled (paper_read result) x first.new second.new ≡ read_into (done (format.edit (whole edit [] (widths_in bytes.now) (pads_in bytes.now)))) x first.old second.old }
 {
     let count = bytes.len() / 8;
     if first.len() < count {
-        return FrameRead::Refused(Refusal::NoRoom);
+        return Err(Refusal::NoRoom);
     }
     if second.len() < count {
-        return FrameRead::Refused(Refusal::NoRoom);
+        return Err(Refusal::NoRoom);
     }
     fill_numbers(bytes, 8, 0, first);
     fill_numbers(bytes, 8, 4, second);
-    FrameRead::Edit {
+    Ok(FrameRead::Edit {
         edit,
         payload: 0,
         first: count,
         second: count,
-    }
+    })
 }

@@ -14,54 +14,46 @@ use crate::{FrameRead, Tally};
 use decoding::{count_scalars, decode};
 use edit::{Edit, Refusal};
 use frame::number_at;
-use utf8::{ByteOffset, Decoded, ScalarCount};
+use utf8::{BadUtf8, ByteOffset, DecodeError};
 
 // The characters from byte `from` on. The offset of a bad sequence is counted from the first byte.
-fn decode_from(bytes: &[u8], from: usize, payload: &mut [u32]) -> Decoded
+fn decode_from(bytes: &[u8], from: usize, payload: &mut [u32]) -> Result<usize, DecodeError>
     requires { from ≤ length bytes.now }
     ensures { outcome (paper_decoded result) payload.new ≡ chars_into (contents from (drop from bytes.now ∷ [])) payload.old }
 {
     let decoded = decode(&bytes[from..], payload);
     match decoded {
-        Decoded::Scalars(count) => Decoded::Scalars(count),
-        Decoded::BadUtf8(at) => Decoded::BadUtf8(ByteOffset(from + at.0)),
-        Decoded::NoRoom => Decoded::NoRoom,
+        Ok(count) => Ok(count),
+        Err(DecodeError::BadUtf8(at)) => Err(DecodeError::BadUtf8(ByteOffset(from + at.0))),
+        Err(DecodeError::NoRoom) => Err(DecodeError::NoRoom),
     }
 }
 
 // A text's characters, which start behind the first byte.
-pub fn read_text(bytes: &[u8], payload: &mut [u32]) -> FrameRead
+pub fn read_text(bytes: &[u8], payload: &mut [u32]) -> Result<FrameRead, Refusal>
     requires { 1 ≤ length bytes.now }
     ensures { (f s : List ℕ) → filled (paper_read result) payload.new f s ≡ read_into (text_of (contents 1 (drop 1 bytes.now ∷ []))) payload.old f s }
 {
-    let decoded = decode_from(bytes, 1, payload);
-    match decoded {
-        Decoded::Scalars(count) => FrameRead::Text(count),
-        Decoded::BadUtf8(at) => FrameRead::Refused(Refusal::BadUtf8(at)),
-        Decoded::NoRoom => FrameRead::Refused(Refusal::NoRoom),
-    }
+    let count = decode_from(bytes, 1, payload)?;
+    Ok(FrameRead::Text(count))
 }
 
 // The characters of an edit that has one string and no lists.
-pub fn read_string(edit: Edit, bytes: &[u8], from: usize, payload: &mut [u32]) -> FrameRead
+pub fn read_string(edit: Edit, bytes: &[u8], from: usize, payload: &mut [u32]) -> Result<FrameRead, Refusal>
     requires { (from ≤ length bytes.now) × ((xs : List (List ℕ)) → first_list edit xs [] ≡ []) }
     ensures { (f s : List ℕ) → filled (paper_read result) payload.new f s ≡ read_into (edit_of edit [] [] (contents from (drop from bytes.now ∷ []))) payload.old f s }
 {
-    let decoded = decode_from(bytes, from, payload);
-    match decoded {
-        Decoded::Scalars(count) => FrameRead::Edit {
-            edit,
-            payload: count,
-            first: 0,
-            second: 0,
-        },
-        Decoded::BadUtf8(at) => FrameRead::Refused(Refusal::BadUtf8(at)),
-        Decoded::NoRoom => FrameRead::Refused(Refusal::NoRoom),
-    }
+    let count = decode_from(bytes, from, payload)?;
+    Ok(FrameRead::Edit {
+        edit,
+        payload: count,
+        first: 0,
+        second: 0,
+    })
 }
 
 // The strings of a block, which start at the frame's byte 9, counted; or where the first bad sequence stands in the frame.
-fn count_chunks(strings: &[u8]) -> Tally
+fn count_chunks(strings: &[u8]) -> Result<Tally, BadUtf8>
     requires { is_cut (strings_in strings.now) ≡ true }
     ensures { paper_tally result ≡ tallied (contents 13 (strings_of (strings_in strings.now))) }
 {
@@ -74,17 +66,17 @@ fn count_chunks(strings: &[u8]) -> Tally
         let end = start + length;
         let counted = count_scalars(&strings[start..end]);
         match counted {
-            ScalarCount::BadUtf8(bad) => {
-                return Tally::BadUtf8(ByteOffset(start + 9 + bad.0));
+            Err(bad) => {
+                return Err(BadUtf8(ByteOffset(start + 9 + bad.0.0)));
             }
-            ScalarCount::Scalars(count) => {
+            Ok(count) => {
                 chars += count;
                 chunks += 1;
                 at = end;
             }
         }
     }
-    Tally::Counted { chunks, chars }
+    Ok(Tally { chunks, chars })
 }
 
 // How many characters a well-formed string has. They are read to the payload from `from` on.
@@ -92,12 +84,7 @@ fn read_behind(string: &[u8], payload: &mut [u32], from: usize) -> usize
     requires { (from ≤ length payload.old) × Fillable (reading string.now) (length payload.old - from) }
     ensures { (result ≡ length (scalars_of (reading string.now))) × (payload.new ≡ paste payload.old from (scalars_of (reading string.now)) (length (scalars_of (reading string.now)))) }
 {
-    let decoded = decode(string, &mut payload[from..]);
-    match decoded {
-        Decoded::Scalars(count) => count,
-        Decoded::BadUtf8(_) => 0,
-        Decoded::NoRoom => 0,
-    }
+    decode(string, &mut payload[from..]).unwrap()
 }
 
 // The characters of a block's strings one after another, and how many each has.
@@ -121,27 +108,24 @@ fn fill_chunks(strings: &[u8], payload: &mut [u32], first: &mut [u32])
 }
 
 // A block's strings.
-pub fn read_chunks(edit: Edit, strings: &[u8], payload: &mut [u32], first: &mut [u32]) -> FrameRead
+pub fn read_chunks(edit: Edit, strings: &[u8], payload: &mut [u32], first: &mut [u32]) -> Result<FrameRead, Refusal>
     requires { (is_cut (strings_in strings.now) ≡ true) × ((xs : List (List ℕ)) → first_list edit xs [] ≡ map length xs) }
     ensures { (s : List ℕ) → filled (paper_read result) payload.new first.new s ≡ read_into (edit_of edit [] [] (contents 13 (strings_of (strings_in strings.now)))) payload.old first.old s }
 {
-    let tally = count_chunks(strings);
-    match tally {
-        Tally::BadUtf8(at) => FrameRead::Refused(Refusal::BadUtf8(at)),
-        Tally::Counted { chunks, chars } => {
-            if payload.len() < chars {
-                return FrameRead::Refused(Refusal::NoRoom);
-            }
-            if first.len() < chunks {
-                return FrameRead::Refused(Refusal::NoRoom);
-            }
-            fill_chunks(strings, payload, first);
-            FrameRead::Edit {
-                edit,
-                payload: chars,
-                first: chunks,
-                second: 0,
-            }
-        }
+    let tally = count_chunks(strings)?;
+    let chunks = tally.chunks;
+    let chars = tally.chars;
+    if payload.len() < chars {
+        return Err(Refusal::NoRoom);
     }
+    if first.len() < chunks {
+        return Err(Refusal::NoRoom);
+    }
+    fill_chunks(strings, payload, first);
+    Ok(FrameRead::Edit {
+        edit,
+        payload: chars,
+        first: chunks,
+        second: 0,
+    })
 }

@@ -7,7 +7,8 @@ ghost use Rattle.text.specs.Text.{is_lf, text_limit};
 ghost use Rattle.text.specs.Answers.{paper_clamped};
 ghost use Rattle.text.specs.Calls.{clamped_in};
 
-use text::{CharOffset, Clamped, Col, LF, Place, Position, Row, Span, is_text};
+use text::{CharOffset, Col, LF, Place, Position, Row, Span, is_text};
+use utf8::BadText;
 
 // How many characters `line_to_char` passes over at once: `last_row` has no early exit, so it is vectorised.
 const BLOCK: usize = 64;
@@ -150,11 +151,11 @@ pub fn contains(text: &[u32], pos: Position) -> bool
 }
 
 // The same for any buffer and used length.
-pub fn clamp_position(buffer: &[u32], used: usize, pos: Position) -> Clamped
+pub fn clamp_position(buffer: &[u32], used: usize, pos: Position) -> Result<Position, BadText>
     ensures { paper_clamped result ≡ clamped_in buffer.now used pos }
 {
     if !is_text(buffer, used) {
-        return Clamped::BadText;
+        return Err(BadText);
     }
-    Clamped::At(clamp(&buffer[0..used], pos))
+    Ok(clamp(&buffer[0..used], pos))
 }

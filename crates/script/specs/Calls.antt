@@ -2,13 +2,13 @@
 use Rattle.std.specs.Prelude.{List, ℕ}
 use Rattle.promise.specs.Paper.{Paper, done, refused}
 use Rattle.utf8.specs.Calls.{Outcome, stored}
-use Rattle.script.specs.declared.Ran.{Ran}
-use Rattle.script.specs.declared.Ran.TheVariants.{Bytes, NoRoom}
 use Rattle.feed.specs.Scripts.{output}
+use Rattle.std.specs.Prelude.{Result, Ok, Err}
+use Rattle.utf8.specs.declared.NoRoom.{NoRoom}
 
-abbrev pub paper_ran : Ran → Paper ℕ
-paper_ran (Bytes n) = done n
-paper_ran NoRoom = refused 8 0
+abbrev pub paper_ran : Result ℕ NoRoom → Paper ℕ
+paper_ran (Ok n) = done n
+paper_ran (Err e) = refused 8 0
 
 -- all that the script prints, or 8: "encoded output too long for its slice"
 abbrev pub ran_into : List ℕ → List ℕ → Outcome

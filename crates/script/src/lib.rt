@@ -14,13 +14,7 @@ use emitting::add_part;
 use feed::{CLOSING_ROOM, HELD_ROOM, close};
 use feeding::feed_all;
 use step::{MARK_ROOM, TEXT_ROOM, opening};
-
-// How many bytes were printed to the front of the slice lent for them.
-#[derive(Clone, Copy)]
-pub enum Ran {
-    Bytes(usize),
-    NoRoom,
-}
+use utf8::NoRoom;
 
 // How much has been printed, and whether it fits.
 #[derive(Clone, Copy)]
@@ -57,13 +51,13 @@ fn run_over(input: &[u8], out: &mut [u8], keep: bool) -> Went
 }
 
 // A refusal changes nothing that is lent, so the script is run twice: the first time to see whether all that it prints fits.
-pub fn run_script(input: &[u8], out: &mut [u8]) -> Ran
+pub fn run_script(input: &[u8], out: &mut [u8]) -> Result<usize, NoRoom>
     ensures { outcome (paper_ran result) out.new ≡ ran_into input.now out.old }
 {
     let counted = run_over(input, out, false);
     if !counted.fits {
-        return Ran::NoRoom;
+        return Err(NoRoom);
     }
     let kept = run_over(input, out, true);
-    Ran::Bytes(kept.printed)
+    Ok(kept.printed)
 }

@@ -104,6 +104,15 @@ module _ (s : List ℕ) (i : ℕ) where
       go zero t e = read_lost (drop i s) i t (simp length-drop (omega arith))
       go (suc n) t e = let z : ◌≡◌ {A = ℕ} 0 1 = cc in absurd (omega arith)
 
+  -- what is refused is refused for this place
+  pub step-place : (k : ℕ) → refused 5 k ≡ step_by UTF8-char s i → k ≡ i
+  unfolding stepped
+  step-place k e = go (taken UTF8-char (drop i s)) e
+    where
+      go : (n : ℕ) → refused 5 k ≡ stepped n (drop i s) i → k ≡ i
+      go zero e = cc
+      go (suc n) e = let z : ◌≡◌ {A = ℕ} 0 1 = cc in absurd (omega arith)
+
   pub read_end : length s ≤ i → read_from i 0 (drop i s) ≡ scalars []
   unfolding read_from
   read_end h = rw (drop_of_length-le s h)

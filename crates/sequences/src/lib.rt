@@ -8,7 +8,7 @@ ghost use Rattle.utf8.specs.Lead.{announced};
 ghost use Rattle.utf8.specs.Answers.{paper_step};
 ghost use Rattle.utf8.specs.Calls.{step_by};
 
-use utf8::{ByteOffset, Step};
+use utf8::{BadUtf8, ByteOffset, Scalar};
 
 pub fn wide(x: u8) -> u32
     ensures { result ≡ x }
@@ -79,68 +79,68 @@ pub fn number_of_four(a: u8, b: u8, c: u8, d: u8) -> u32
     ((wide(a) % 8 * 64 + wide(b) % 64) * 64 + wide(c) % 64) * 64 + wide(d) % 64
 }
 
-fn read_two(bytes: &[u8], start: usize) -> Step
+fn read_two(bytes: &[u8], start: usize) -> Result<Scalar, BadUtf8>
     requires { start < length bytes.now }
     ensures { paper_step result ≡ step_by UTF8-2 bytes.now start }
 {
     if bytes.len() - start < 2 {
-        return Step::BadUtf8(ByteOffset(start));
+        return Err(BadUtf8(ByteOffset(start)));
     }
     let a = bytes[start];
     let b = bytes[start + 1];
     if is_two(a, b) {
-        Step::Scalar {
+        Ok(Scalar {
             value: number_of_two(a, b),
             next: ByteOffset(start + 2),
-        }
+        })
     } else {
-        Step::BadUtf8(ByteOffset(start))
+        Err(BadUtf8(ByteOffset(start)))
     }
 }
 
-fn read_three(bytes: &[u8], start: usize) -> Step
+fn read_three(bytes: &[u8], start: usize) -> Result<Scalar, BadUtf8>
     requires { start < length bytes.now }
     ensures { paper_step result ≡ step_by UTF8-3 bytes.now start }
 {
     if bytes.len() - start < 3 {
-        return Step::BadUtf8(ByteOffset(start));
+        return Err(BadUtf8(ByteOffset(start)));
     }
     let a = bytes[start];
     let b = bytes[start + 1];
     let c = bytes[start + 2];
     if is_three(a, b, c) {
-        Step::Scalar {
+        Ok(Scalar {
             value: number_of_three(a, b, c),
             next: ByteOffset(start + 3),
-        }
+        })
     } else {
-        Step::BadUtf8(ByteOffset(start))
+        Err(BadUtf8(ByteOffset(start)))
     }
 }
 
-fn read_four(bytes: &[u8], start: usize) -> Step
+fn read_four(bytes: &[u8], start: usize) -> Result<Scalar, BadUtf8>
     requires { start < length bytes.now }
     ensures { paper_step result ≡ step_by UTF8-4 bytes.now start }
 {
     if bytes.len() - start < 4 {
-        return Step::BadUtf8(ByteOffset(start));
+        return Err(BadUtf8(ByteOffset(start)));
     }
     let a = bytes[start];
     let b = bytes[start + 1];
     let c = bytes[start + 2];
     let d = bytes[start + 3];
     if is_four(a, b, c, d) {
-        Step::Scalar {
+        Ok(Scalar {
             value: number_of_four(a, b, c, d),
             next: ByteOffset(start + 4),
-        }
+        })
     } else {
-        Step::BadUtf8(ByteOffset(start))
+        Err(BadUtf8(ByteOffset(start)))
     }
 }
 
 // A sequence of more than one octet, by its lead's leading one bits.
-fn read_long(bytes: &[u8], start: usize, ones: u32) -> Step
+fn read_long(bytes: &[u8], start: usize, ones: u32) -> Result<Scalar, BadUtf8>
     requires { (start < length bytes.now) × (0 < ones) }
     ensures { paper_step result ≡ step_by (announced ones) bytes.now start }
 {
@@ -148,25 +148,25 @@ fn read_long(bytes: &[u8], start: usize, ones: u32) -> Step
         2 => read_two(bytes, start),
         3 => read_three(bytes, start),
         4 => read_four(bytes, start),
-        _ => Step::BadUtf8(ByteOffset(start)),
+        _ => Err(BadUtf8(ByteOffset(start))),
     }
 }
 
 // The scalar whose sequence starts at `at`, and the place after it.
-pub fn read_scalar(bytes: &[u8], at: ByteOffset) -> Step
+pub fn read_scalar(bytes: &[u8], at: ByteOffset) -> Result<Scalar, BadUtf8>
     ensures { paper_step result ≡ step_by UTF8-char bytes.now at.0 }
 {
     let start = at.0;
     if bytes.len() <= start {
-        return Step::BadUtf8(at);
+        return Err(BadUtf8(at));
     }
     let lead = bytes[start];
     let ones = leading_ones(lead);
     if ones == 0 {
-        return Step::Scalar {
+        return Ok(Scalar {
             value: wide(lead),
             next: ByteOffset(start + 1),
-        };
+        });
     }
     read_long(bytes, start, ones)
 }

@@ -13,40 +13,39 @@ use Rattle.edit.specs.Refusals.{small_position, small_ok, few_ok, payload_ok}
 use Rattle.edit.specs.Call.{first_of}
 use Rattle.select.specs.declared.Sel.{Sel}
 use Rattle.select.specs.Sels.{sel}
-use Rattle.shift.specs.declared.Track.{Track}
-use Rattle.shift.specs.declared.Track.TheVariants.{To, Dropped}
-use Rattle.shift.specs.Answers.{Followed, to, dropped, paper_track}
+use Rattle.shift.specs.Answers.{Followed, to, dropped, followed}
 use Rattle.shift.specs.Kinds.{shifted}
 use Rattle.shift.specs.Call.{ordered_ok, both as ends, sel_shifted, kept, carried_over}
+use Rattle.std.specs.Prelude.{Option, Some, None}
 
 ends_dropped : (y : Followed Position) → dropped ≡ ends dropped y
 ends_dropped (to h) = refl
 ends_dropped dropped = refl
 
 module _ (t : List ℕ) (e : Edit) (x f : List ℕ) (l : Sel) where
-  abbrev Tracks : Track → Position → Type 0
-  Tracks w p = paper_track w ≡ shifted t e x f p
+  abbrev Tracks : Option Position → Position → Type 0
+  Tracks w p = followed w ≡ shifted t e x f p
 
   abbrev landed : Followed Sel
   landed = ends (shifted t e x f l.anchor) (shifted t e x f l.head)
 
   -- ---- from what each end is followed to
 
-  pub anchor_dropped : (w : Track) → Tracks w l.anchor → w ≡ Dropped → dropped ≡ landed
+  pub anchor_dropped : (w : Option Position) → Tracks w l.anchor → w ≡ None → dropped ≡ landed
   anchor_dropped w a i =
       let y : dropped ≡ shifted t e x f l.anchor = rw i at a in
       rw (← y) (ends_dropped (shifted t e x f l.head))
 
-  module _ (w : Track) (p : Position) (a : Tracks w l.anchor) (i : w ≡ To p) (z : Track) (c : Tracks z l.head) where
+  module _ (w : Option Position) (p : Position) (a : Tracks w l.anchor) (i : w ≡ Some p) (z : Option Position) (c : Tracks z l.head) where
     there : to p ≡ shifted t e x f l.anchor
     there = rw i at a
 
-    pub head_dropped : z ≡ Dropped → dropped ≡ landed
+    pub head_dropped : z ≡ None → dropped ≡ landed
     head_dropped j =
         let y : dropped ≡ shifted t e x f l.head = rw j at c in
         rw (← there, ← y)
 
-    pub sel-lands : (r : Position) → z ≡ To r → to (sel p r) ≡ landed
+    pub sel-lands : (r : Position) → z ≡ Some r → to (sel p r) ≡ landed
     sel-lands r j =
         let y : to r ≡ shifted t e x f l.head = rw j at c in
         rw (← there, ← y)

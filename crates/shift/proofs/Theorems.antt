@@ -20,13 +20,7 @@ use Rattle.edit.specs.Refusals.{is_space, spaces, sum, payload_ok}
 use Rattle.edit.specs.Theorems.{Stands}
 use Rattle.edit.proofs.Theorems.{refusal_back, refusal_back_lem}
 use Rattle.select.specs.declared.Sel.{Sel}
-use Rattle.shift.specs.declared.Shifted.{Shifted}
-use Rattle.shift.specs.declared.Shifted.TheVariants as as_shifted
-use Rattle.shift.specs.declared.SelShifted.{SelShifted}
-use Rattle.shift.specs.declared.SelShifted.TheVariants as as_sel_shifted
-use Rattle.shift.specs.declared.Carried.{Carried}
-use Rattle.shift.specs.declared.Carried.TheVariants as as_carried
-use Rattle.shift.specs.Answers.{Followed, to, dropped, paper_shifted, paper_sel_shifted, paper_carried}
+use Rattle.shift.specs.Answers.{Followed, to, dropped, paper_shifted, followed}
 use Rattle.after.specs.After.{after_delete_char}
 use Rattle.shift.specs.Kinds.{after_delete, shifted}
 use Rattle.shift.specs.Theorems.{KeepsBefore, Nothing, FollowsRange, UnchangedStays, SplitDrops, Settled}
@@ -34,6 +28,7 @@ use Rattle.after.proofs.Inserts.{insert-before}
 use Rattle.shift.proofs.Still.{insert_block_above, insert_block_before, insert-nothing, delete_nothing, join-nothing, insert-block_nothing, delete_chunks_nothing}
 use Rattle.shift.proofs.Unchanged.{insert-unchanged, chars_unchanged, lines-unchanged}
 use Rattle.shift.proofs.UnchangedRows.{join-unchanged, insert-block_unchanged, delete_chunks_unchanged, block_unchanged}
+use Rattle.std.specs.Prelude.{Result, Ok, Err, Option, Some, None}
 
 stays : {p q : Position} → q ≡ p → to q ≡ to p
 stays e = ap (λ (x : Position). to x) e
@@ -80,36 +75,36 @@ pub split-drops : SplitDrops
 unfolding shifted
 split-drops t r x f p = refl
 
-shifted_back : Paper (Followed Position) → Shifted
-shifted_back (done (to p)) = as_shifted.At p
-shifted_back (done dropped) = as_shifted.Dropped
-shifted_back (refused n k) = as_shifted.Refused (refusal_back n k)
+shifted_back : Paper (Followed Position) → Result (Option Position) Refusal
+shifted_back (done (to p)) = Ok (Some p)
+shifted_back (done dropped) = Ok None
+shifted_back (refused n k) = Err (refusal_back n k)
 
-shifted_back_lem : (x : Shifted) → shifted_back (paper_shifted x) ≡ x
+shifted_back_lem : (x : Result (Option Position) Refusal) → shifted_back (paper_shifted x) ≡ x
 unfolding shifted_back
-shifted_back_lem (as_shifted.At p) = refl
-shifted_back_lem as_shifted.Dropped = refl
-shifted_back_lem (as_shifted.Refused r) = ap (λ (r : Refusal). as_shifted.Refused r) (refusal_back_lem r)
+shifted_back_lem (Ok (Some p)) = refl
+shifted_back_lem (Ok None) = refl
+shifted_back_lem (Err r) = ap (λ (r : Refusal). Err r) (refusal_back_lem r)
 
-sel_back : Paper (Followed Sel) → SelShifted
-sel_back (done (to s)) = as_sel_shifted.At s
-sel_back (done dropped) = as_sel_shifted.Dropped
-sel_back (refused n k) = as_sel_shifted.Refused (refusal_back n k)
+sel_back : Paper (Followed Sel) → Result (Option Sel) Refusal
+sel_back (done (to s)) = Ok (Some s)
+sel_back (done dropped) = Ok None
+sel_back (refused n k) = Err (refusal_back n k)
 
-sel-back : (x : SelShifted) → sel_back (paper_sel_shifted x) ≡ x
+sel-back : (x : Result (Option Sel) Refusal) → sel_back (paper_shifted x) ≡ x
 unfolding sel_back
-sel-back (as_sel_shifted.At s) = refl
-sel-back as_sel_shifted.Dropped = refl
-sel-back (as_sel_shifted.Refused r) = ap (λ (r : Refusal). as_sel_shifted.Refused r) (refusal_back_lem r)
+sel-back (Ok (Some s)) = refl
+sel-back (Ok None) = refl
+sel-back (Err r) = ap (λ (r : Refusal). Err r) (refusal_back_lem r)
 
-carried_back : Followed Sel → Carried
-carried_back (to s) = as_carried.At s
-carried_back dropped = as_carried.Dropped
+carried_back : Followed Sel → Option Sel
+carried_back (to s) = Some s
+carried_back dropped = None
 
-carried-back : (x : Carried) → carried_back (paper_carried x) ≡ x
+carried-back : (x : Option Sel) → carried_back (followed x) ≡ x
 unfolding carried_back
-carried-back (as_carried.At s) = refl
-carried-back as_carried.Dropped = refl
+carried-back (Some s) = refl
+carried-back None = refl
 
 pub promises_settle : Settled
 promises_settle = record { shift_position = settled shifted_back shifted_back_lem; shift_sel = settled sel_back sel-back; carry_sel = settled carried_back carried-back }

@@ -14,9 +14,9 @@ use Rattle.edit.specs.Refusals.{small_position, small_ok, few_ok, payload_ok}
 use Rattle.edit.specs.Call.{first_of}
 use Rattle.select.specs.declared.Sel.{Sel}
 use Rattle.select.specs.Sels.{sel}
-use Rattle.shift.specs.declared.Shifted.{Shifted}
 use Rattle.shift.specs.Answers.{Followed, to, dropped, paper_shifted}
 use Rattle.shift.specs.Kinds.{shifted}
+use Rattle.std.specs.Prelude.{Result, Ok, Err, Option, Some, None}
 
 -- 6 Reversed: "shift only: Char or Replace start after end, Line start row after end row"
 unfoldable pub ordered_range : Position → Position → MotionKind → Bool
@@ -50,7 +50,7 @@ position_shifted buffer used e x f s p =
     first_of (shift_tests buffer used e x f s (small_position p)) (done (shifted (take used buffer) e x f p))
 
 -- What `shift_position` promises.
-abbrev pub ShiftPromised : Shifted → List ℕ → ℕ → Edit → List ℕ → List ℕ → List ℕ → Position → Type 0
+abbrev pub ShiftPromised : Result (Option Position) Refusal → List ℕ → ℕ → Edit → List ℕ → List ℕ → List ℕ → Position → Type 0
 ShiftPromised r buffer used e x f s p = paper_shifted r ≡ position_shifted buffer used e x f s p
 
 -- "either the whole selection survives the edit or the whole selection is dropped"; "Shifts don't reorder ends."

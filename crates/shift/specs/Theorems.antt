@@ -1,6 +1,7 @@
 -- What is proved of shifts, beside that the code meets its promises. The proofs stand in proofs/Theorems.antt.
 use Rattle.std.specs.Prelude.{Bool, true, false, List, [], ◌≡◌, ℕ, ◌≤◌, ◌<◌, replicate}
 use Rattle.promise.specs.Settled.{Settles}
+use Rattle.select.specs.declared.Sel.{Sel}
 use Rattle.text.specs.declared.Position.{Position}
 use Rattle.text.specs.declared.Row.{Row}
 use Rattle.text.specs.Rows.{upto, last_row}
@@ -12,7 +13,7 @@ use Rattle.edit.specs.declared.Edit.TheVariants.{InsertChar, InsertStr, DeleteRa
 use Rattle.edit.specs.Edits.{edited_by}
 use Rattle.edit.specs.Refusals.{is_space, spaces, payload_ok}
 use Rattle.edit.specs.Theorems.{Stands}
-use Rattle.shift.specs.Answers.{to, dropped, paper_shifted, paper_sel_shifted, paper_carried}
+use Rattle.shift.specs.Answers.{to, dropped, paper_shifted, followed}
 use Rattle.shift.specs.Kinds.{shifted}
 
 -- p stays where it is over the edit
@@ -72,6 +73,6 @@ SplitDrops = (t : List ℕ) (r : Row) (x f : List ℕ) (p : Position) → shifte
 
 -- Each public promise settles its answer.
 pub record Settled : Type 0 where
-  pub shift_position : Settles paper_shifted
-  pub shift_sel : Settles paper_sel_shifted
-  pub carry_sel : Settles paper_carried
+  pub shift_position : Settles (paper_shifted {A = Position})
+  pub shift_sel : Settles (paper_shifted {A = Sel})
+  pub carry_sel : Settles (followed {A = Sel})

@@ -1,10 +1,10 @@
 // What a shift is refused for: rows 1 to 4, and 6.
 ghost use Rattle.std.specs.Prelude.{◌≡◌};
-ghost use Rattle.edit.specs.Call.{paper_verdict, verdict_of};
+ghost use Rattle.edit.specs.Call.{paper, verdict_of};
 ghost use Rattle.shift.specs.Call.{ordered_range, ordered_ok, shift_tests};
 
 use bad_payload::payload_good;
-use edit::{Edit, MotionKind, Refusal, Verdict};
+use edit::{Edit, MotionKind, Refusal};
 use given::first_refusal;
 use text::{Position, is_text};
 use too_big::numbers_small;
@@ -46,21 +46,18 @@ pub fn judge(
     first: &[u32],
     second: &[u32],
     small: bool,
-) -> Verdict
-    ensures { paper_verdict result ≡ verdict_of (shift_tests buffer.now used edit payload.now first.now second.now small) }
+) -> Result<(), Refusal>
+    ensures { paper result ≡ verdict_of (shift_tests buffer.now used edit payload.now first.now second.now small) }
 {
     if !is_text(buffer, used) {
-        return Verdict::Bad(Refusal::BadText);
+        return Err(Refusal::BadText);
     }
     let numbers = numbers_small(edit, first, second) & small;
     let few = lists_few(&buffer[0..used], edit, payload, first, second);
     let good = payload_good(edit, payload, first);
-    let verdict = first_refusal(numbers, few, good);
-    if let Verdict::Bad(why) = verdict {
-        return Verdict::Bad(why);
-    }
+    first_refusal(numbers, few, good)?;
     if !ordered(edit) {
-        return Verdict::Bad(Refusal::Reversed);
+        return Err(Refusal::Reversed);
     }
-    Verdict::Fine
+    Ok(())
 }

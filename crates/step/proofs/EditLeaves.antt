@@ -16,10 +16,8 @@ use Rattle.edit.specs.declared.Applied.{Applied}
 use Rattle.edit.specs.declared.Edit.{Edit}
 use Rattle.edit.specs.Edits.{Whole, whole, Edited}
 use Rattle.edit.specs.declared.Refusal.{Refusal}
-use Rattle.edit.specs.declared.Verdict.{Verdict}
-use Rattle.edit.specs.declared.Verdict.TheVariants.{Fine, Bad}
 use Rattle.edit.specs.Refusals.{small_ok, few_ok, payload_ok}
-use Rattle.edit.specs.Call.{number_of, offset_of, paper_verdict, Lent, lent, Outcome, outcome, verdict_of, given_tests, leaves as leaves_call, applied}
+use Rattle.edit.specs.Call.{paper, number_of, offset_of, Lent, lent, Outcome, outcome, verdict_of, given_tests, leaves as leaves_call, applied}
 use Rattle.edit.specs.Demand3.{returned}
 use Rattle.edit.proofs.Calls.{lengths_kept, inverse_fits_room}
 use Rattle.edit.proofs.Workers.{given_passed, applied-refused}
@@ -44,6 +42,7 @@ use Rattle.step.specs.Steps.{lent_to, carried, answered, ran, edited, framed}
 use Rattle.step.specs.Calls.{Ready, Left, left, leaves, carried_in, inverse_in}
 use Rattle.step.proofs.Readies.{inverse_lines, judged-given}
 use Rattle.step.proofs.Shifts.{moved_marks}
+use Rattle.std.specs.Prelude.{Result, Ok, Err}
 
 -- the inverse as it is lent to be printed
 module _ (a : Applied) (x f s : List ℕ) where
@@ -186,28 +185,28 @@ module _ (c : Script) (t m : List ℕ) (h : Ready c t m) where
               rw (ran-answered (done a) (answers ∙ q), b, z.0, z.1, z.2, z.3, moved, inverse_same)
 
 -- an edit e with its ends in order is d, which was judged
-module _ (c : Script) (t m : List ℕ) (h : Ready c t m) (e d : Edit) (x f g : List ℕ) (q : d ≡ in_order e) (v : Verdict)
-    (j : paper_verdict v ≡ verdict_of (later_tests (small_ok d f g) (few_ok (take (c.view.used - 0) (drop 0 t)) d x f g) (payload_ok d x f))) where
+module _ (c : Script) (t m : List ℕ) (h : Ready c t m) (e d : Edit) (x f g : List ℕ) (q : d ≡ in_order e) (v : Result (Unit {0}) Refusal)
+    (j : paper v ≡ verdict_of (later_tests (small_ok d f g) (few_ok (take (c.view.used - 0) (drop 0 t)) d x f g) (payload_ok d x f))) where
   abbrev given : Paper (Unit {0})
   given = verdict_of (given_tests c.view d (lent_to (state_of c t m) (whole d x f g)))
 
-  judged : paper_verdict v ≡ given
+  judged : paper v ≡ given
   judged =
       rw (front t c.view.used) at j
       ∙ judged-given c.view d t x f g (replicate (length t) 0) (replicate 256 0) (replicate 256 0) c.view.used refl h.admitted
 
-  pub apply_asked : v ≡ Fine → (ordered_ok d ≡ true) × (given ≡ done tt)
-  apply_asked z = (rw q (in_order_lem e), sym judged ∙ ap paper_verdict z)
+  pub apply_asked : v ≡ Ok tt → (ordered_ok d ≡ true) × (given ≡ done tt)
+  apply_asked z = (rw q (in_order_lem e), sym judged ∙ ap paper z)
 
   pub fine_leaves : (y : Left) (o : List ℕ) → y ≡ leaves (ran (state_of c t m) (whole d x f g)) m o → y ≡ leaves (edited (state_of c t m) (whole e x f g)) m o
   fine_leaves y o z = rw q at z
 
-  pub bad_leaves : (why : Refusal) → v ≡ Bad why → (r : Progress) (o u : List ℕ) → (r.script ≡ c) × (r.printed ≡ 3) × (u ≡ over (printed_as (number_of why ∷ [])) o)
+  pub bad_leaves : (why : Refusal) → v ≡ Err why → (r : Progress) (o u : List ℕ) → (r.script ≡ c) × (r.printed ≡ 3) × (u ≡ over (printed_as (number_of why ∷ [])) o)
       → left r t m u ≡ leaves (edited (state_of c t m) (whole e x f g)) m o
   unfolding answered
   bad_leaves why z r o u k =
       let w : Whole ℕ = whole d x f g in
-      let a = applied-refused c.view d (lent_to (state_of c t m) w) (number_of why) (offset_of why) (sym (ap paper_verdict z) ∙ judged) in
+      let a = applied-refused c.view d (lent_to (state_of c t m) w) (number_of why) (offset_of why) (sym (ap paper z) ∙ judged) in
       let b = ran-answered c t m h w (refused (number_of why) (offset_of why)) (ap (λ (i : Outcome). i.answer) (sym a)) in
       fine_leaves (left r t m u) o (rw b (refusal_leaves c t m h r (number_of why) o u k))
 

@@ -17,7 +17,7 @@ ghost use Rattle.step.specs.Steps.{lent_to, ran, edited, framed};
 ghost use Rattle.step.specs.Calls.{Ready, left, leaves, carried_in, inverse_in};
 
 use apply::apply_judged;
-use edit::{Answer, Applied, Edit, Refusal, Verdict};
+use edit::{Applied, Edit, Refusal};
 use frame::{BYTE_LIMIT, SHORT_BYTES, SHORT_LINE};
 use given::judge_admitted;
 use loading::{Progress, Script, refuse};
@@ -88,8 +88,8 @@ fn apply_moved(
         &mut outsecond,
     );
     match answer {
-        Answer::Refused(why) => refuse(script, why, out),
-        Answer::Done(done) => accept(
+        Err(why) => refuse(script, why, out),
+        Ok(done) => accept(
             place,
             done,
             &outpayload,
@@ -154,8 +154,8 @@ fn run_frame(
     let ordered = in_order(edit);
     let verdict = judge_admitted(&text[0..used], ordered, payload, first, second);
     match verdict {
-        Verdict::Bad(why) => refuse(script, why, out),
-        Verdict::Fine => apply_frame(script, ordered, payload, first, second, text, marks, out),
+        Err(why) => refuse(script, why, out),
+        Ok(()) => apply_frame(script, ordered, payload, first, second, text, marks, out),
     }
 }
 
@@ -175,12 +175,12 @@ fn step_read(
 {
     let frame = read(line, payload, first, second);
     match frame {
-        FrameRead::Edit {
+        Ok(FrameRead::Edit {
             edit,
             payload: x,
             first: f,
             second: s,
-        } => run_frame(
+        }) => run_frame(
             script,
             edit,
             &payload[0..x],
@@ -190,9 +190,9 @@ fn step_read(
             marks,
             out,
         ),
-        FrameRead::Refused(why) => refuse(script, why, out),
-        FrameRead::Text(_) => refuse(script, Refusal::BadFrame, out),
-        FrameRead::Mark(_) => refuse(script, Refusal::BadFrame, out),
+        Err(why) => refuse(script, why, out),
+        Ok(FrameRead::Text(_)) => refuse(script, Refusal::BadFrame, out),
+        Ok(FrameRead::Mark(_)) => refuse(script, Refusal::BadFrame, out),
     }
 }
 

@@ -7,13 +7,13 @@ use native.Mathlib.Omega.{arith}
 use Rattle.promise.specs.Paper.{Paper, done, refused}
 use Rattle.promise.proofs.Settled.{settled}
 use Rattle.text.specs.declared.Position.{Position}
-use Rattle.text.specs.declared.Clamped.{Clamped}
-use Rattle.text.specs.declared.Clamped.TheVariants as clamped
 use Rattle.text.specs.Rows.{row_count}
 use Rattle.text.specs.Answers.{paper_clamped}
 use Rattle.text.specs.Theorems.{RowsKeep, count_lf, RowsAreLFs, EndsAdd, AddingGroups, EndTake, OffsetEnd, RowsWeld, Renews, RenewsTwice, Settled}
 use Rattle.text.proofs.Renewed.{renewed-text, renewed-length, renewed-twice}
 use Rattle.text.proofs.Laws.{lines-append, count_lf_lem, count_other, count_none, unlines-lines, add-positions, end-append, offset-end, end_take}
+use Rattle.std.specs.Prelude.{Result, Ok, Err}
+use Rattle.utf8.specs.declared.BadText.{BadText}
 
 pub rows-keep : RowsKeep
 rows-keep A lf t = unlines-lines lf t
@@ -48,14 +48,14 @@ ends_take A lf t p = end_take lf t p
 pub offsets_end : OffsetEnd
 offsets_end A lf s u = offset-end lf s u
 
-clamped_back : Paper Position → Clamped
-clamped_back (done p) = clamped.At p
-clamped_back (refused n k) = clamped.BadText
+clamped_back : Paper Position → Result Position BadText
+clamped_back (done p) = Ok p
+clamped_back (refused n k) = Err (record {})
 
-clamped_back_lem : (x : Clamped) → clamped_back (paper_clamped x) ≡ x
+clamped_back_lem : (x : Result Position BadText) → clamped_back (paper_clamped x) ≡ x
 unfolding clamped_back
-clamped_back_lem (clamped.At p) = refl
-clamped_back_lem clamped.BadText = refl
+clamped_back_lem (Ok p) = refl
+clamped_back_lem (Err e) = refl
 
 pub promises_settle : Settled
 promises_settle = record { clamp_position = settled clamped_back clamped_back_lem }

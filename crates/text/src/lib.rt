@@ -44,13 +44,6 @@ pub struct Place {
     pub at: CharOffset,
 }
 
-// A position in the text, or the refusal.
-#[derive(Clone, Copy)]
-pub enum Clamped {
-    At(Position),
-    BadText,
-}
-
 impl Row {
     pub fn min(self, other: Row) -> Row
         ensures { result.0 ≡ min self.0 other.0 }

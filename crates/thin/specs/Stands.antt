@@ -4,8 +4,9 @@ use Rattle.promise.specs.Paper.{Paper, done, refused}
 use Rattle.edit.specs.declared.View.{View}
 use Rattle.edit.specs.declared.Edit.{Edit}
 use Rattle.edit.specs.declared.Applied.{Applied}
-use Rattle.edit.specs.declared.Answer.{Answer}
-use Rattle.edit.specs.Call.{paper_answer, Lent, Outcome, outcome, applied}
+use Rattle.edit.specs.Call.{paper, Lent, Outcome, outcome, applied}
+use Rattle.std.specs.Prelude.{Result, Ok, Err}
+use Rattle.edit.specs.declared.Refusal.{Refusal}
 
 pub record Updated : Type 0 where
   pub outcome : Outcome
@@ -23,5 +24,5 @@ abbrev pub applied_in : View → Edit → Lent → Updated
 applied_in v e l = updated (applied v e l) (view_after v (applied v e l).answer)
 
 -- What `apply_edit_in` promises: what `apply_edit` does, and the record at exit.
-abbrev pub PromisedIn : Answer → List ℕ → List ℕ → List ℕ → List ℕ → View → View → Edit → Lent → Type 0
-PromisedIn r text payload first second view v e l = updated (outcome (paper_answer r) text payload first second) view ≡ applied_in v e l
+abbrev pub PromisedIn : Result Applied Refusal → List ℕ → List ℕ → List ℕ → List ℕ → View → View → Edit → Lent → Type 0
+PromisedIn r text payload first second view v e l = updated (outcome (paper r) text payload first second) view ≡ applied_in v e l

@@ -2,19 +2,19 @@
 #![tactic(auto)]
 
 ghost use Rattle.std.specs.Prelude.{◌≡◌};
-ghost use Rattle.edit.specs.Call.{paper_answer, lent};
+ghost use Rattle.edit.specs.Call.{paper, lent};
 ghost use Rattle.thin.specs.Stands.{view_after, PromisedIn};
 
 use apply::apply_edit;
-use edit::{Answer, Edit, View};
+use edit::{Applied, Edit, Refusal, View};
 
 // The view after an answer: the new one, or the old where the edit was refused.
-fn view_after(view: View, answer: Answer) -> View
-    ensures { result ≡ view_after view (paper_answer answer) }
+fn view_after(view: View, answer: Result<Applied, Refusal>) -> View
+    ensures { result ≡ view_after view (paper answer) }
 {
     match answer {
-        Answer::Done(done) => done.view,
-        Answer::Refused(_) => view,
+        Ok(done) => done.view,
+        Err(_) => view,
     }
 }
 
@@ -28,7 +28,7 @@ pub fn apply_edit_in(
     outpayload: &mut [u32],
     outfirst: &mut [u32],
     outsecond: &mut [u32],
-) -> Answer
+) -> Result<Applied, Refusal>
     ensures { PromisedIn result text.new outpayload.new outfirst.new outsecond.new view.new view.old edit (lent text.old payload.now first.now second.now outpayload.old outfirst.old outsecond.old) }
 {
     let before = *view;

@@ -5,24 +5,23 @@ use Rattle.text.specs.Rows.{at}
 use Rattle.select.specs.Sels.{sel}
 use Rattle.edit.specs.declared.Edit.TheVariants.{InsertStr}
 use Rattle.reader.specs.Calls.{edit}
-use Rattle.merge.specs.declared.Merged.TheVariants.{Count}
-use Rattle.merge.specs.Call.{paper_merged}
-use Rattle.writer.specs.declared.Written.TheVariants.{Digits}
-use Rattle.writer.specs.Calls.{paper_written}
-use Rattle.script.specs.declared.Ran.TheVariants.{NoRoom}
 use Rattle.script.specs.Calls.{paper_ran}
 use Rattle.shift.specs.Answers.{dropped}
 use Rattle.plain.specs.Told.{told_count}
 use Rattle.told.specs.Shifts.{told_shifted, told_sel_shifted}
 use Rattle.told.specs.Lines.{told_mark, told_read}
+use Rattle.std.specs.Prelude.{Result, Ok, Err}
+use Rattle.edit.specs.declared.Refusal.{Refusal}
+use Rattle.utf8.specs.declared.NoRoom.{NoRoom}
+use Rattle.edit.specs.Call.{paper}
 
 pub record RuledOut : Type 0 where
   -- a line told to have as many digits as its frame has bytes
-  pub digits : told_count (paper_written (Digits 6)) ≡ record { refusal = 0; offset = 0; count = 6 }
+  pub digits : told_count (paper (Ok 6)) ≡ record { refusal = 0; offset = 0; count = 6 }
   -- a quarter of the selections told
-  pub selections : told_count (paper_merged (Count 4)) ≡ record { refusal = 0; offset = 0; count = 4 }
+  pub selections : told_count (paper (Ok 4)) ≡ record { refusal = 0; offset = 0; count = 4 }
   -- want of room for a script's output told as 9
-  pub no_room : told_count (paper_ran NoRoom) ≡ record { refusal = 8; offset = 0; count = 0 }
+  pub no_room : told_count (paper_ran (Err (record {}))) ≡ record { refusal = 8; offset = 0; count = 0 }
   -- a position or a selection that cannot be followed told as refused by 6
   pub lost_place : told_shifted (done dropped) ≡ record { refusal = 0; found = false; at = at 0 0 }
   pub lost : told_sel_shifted (done dropped) ≡ record { refusal = 0; found = false; sel = sel (at 0 0) (at 0 0) }

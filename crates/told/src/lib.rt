@@ -2,88 +2,79 @@
 #![tactic(auto)]
 
 ghost use Rattle.std.specs.Prelude.{◌≡◌};
-ghost use Rattle.asked.specs.Calls.{paper_text, paper_mark, paper_edit};
-ghost use Rattle.merge.specs.Call.{paper_merged};
-ghost use Rattle.shift.specs.Answers.{paper_shifted, paper_sel_shifted};
-ghost use Rattle.view.specs.Answers.{paper_undoable, paper_cursor_set};
-ghost use Rattle.writer.specs.Calls.{paper_written};
+ghost use Rattle.asked.specs.Calls.{paper_mark, paper_edit};
+ghost use Rattle.shift.specs.Answers.{paper_shifted};
+ghost use Rattle.view.specs.Answers.{paper_cursor_set};
 ghost use Rattle.script.specs.Calls.{paper_ran};
 ghost use Rattle.plain.specs.Told.{told_count, told_yes, told_view};
 ghost use Rattle.told.specs.Shifts.{told_shifted, told_sel_shifted};
 ghost use Rattle.told.specs.Lines.{told_mark, told_read};
+ghost use Rattle.edit.specs.Call.{paper};
 
-use asked::{EditRead, MarkRead, TextRead};
+use asked::EditRead;
 use edit::{Refusal, View};
-use merge::Merged;
 use plain::{
     Count, EditLine, Found, Said, SelFound, Viewed, counted, found_at, found_sel, line_read,
     no_line, no_sel, not_counted, not_found,
 };
-use script::Ran;
-use shift::{SelShifted, Shifted};
-use view::{CanUndo, CursorSet};
-use writer::Written;
+use select::Sel;
+use text::Position;
+use hexline::BadFrame;
+use utf8::{BadText, NoRoom};
 
-pub fn told_ran(ran: Ran) -> Count
+pub fn told_ran(ran: Result<usize, NoRoom>) -> Count
     ensures { result ≡ told_count (paper_ran ran) }
 {
     match ran {
-        Ran::Bytes(n) => counted(n),
-        Ran::NoRoom => not_counted(Refusal::NoRoom),
+        Ok(n) => counted(n),
+        Err(NoRoom) => not_counted(Refusal::NoRoom),
     }
 }
 
-pub fn told_written(written: Written) -> Count
-    ensures { result ≡ told_count (paper_written written) }
+pub fn told_written(written: Result<usize, Refusal>) -> Count
+    ensures { result ≡ told_count (paper written) }
 {
     match written {
-        Written::Digits(n) => counted(n),
-        Written::Refused(why) => not_counted(why),
+        Ok(n) => counted(n),
+        Err(why) => not_counted(why),
     }
 }
 
-pub fn told_merged(merged: Merged) -> Count
-    ensures { result ≡ told_count (paper_merged merged) }
+pub fn told_merged(merged: Result<usize, Refusal>) -> Count
+    ensures { result ≡ told_count (paper merged) }
 {
     match merged {
-        Merged::Count(n) => counted(n),
-        Merged::Refused(why) => not_counted(why),
+        Ok(n) => counted(n),
+        Err(why) => not_counted(why),
     }
 }
 
-pub fn told_shifted(shifted: Shifted) -> Found
+pub fn told_shifted(shifted: Result<Option<Position>, Refusal>) -> Found
     ensures { result ≡ told_shifted (paper_shifted shifted) }
 {
     match shifted {
-        Shifted::At(at) => found_at(at),
-        Shifted::Dropped => not_found(0),
-        Shifted::Refused(why) => not_found(why.number()),
+        Ok(Some(at)) => found_at(at),
+        Ok(None) => not_found(0),
+        Err(why) => not_found(why.number()),
     }
 }
 
-pub fn told_sel_shifted(shifted: SelShifted) -> SelFound
-    ensures { result ≡ told_sel_shifted (paper_sel_shifted shifted) }
+pub fn told_sel_shifted(shifted: Result<Option<Sel>, Refusal>) -> SelFound
+    ensures { result ≡ told_sel_shifted (paper_shifted shifted) }
 {
     match shifted {
-        SelShifted::At(sel) => found_sel(sel),
-        SelShifted::Dropped => no_sel(0),
-        SelShifted::Refused(why) => no_sel(why.number()),
+        Ok(Some(sel)) => found_sel(sel),
+        Ok(None) => no_sel(0),
+        Err(why) => no_sel(why.number()),
     }
 }
 
-pub fn told_undoable(can: CanUndo) -> Said
-    ensures { result ≡ told_yes (paper_undoable can) }
+pub fn told_undoable(can: Result<bool, Refusal>) -> Said
+    ensures { result ≡ told_yes (paper can) }
 {
     match can {
-        CanUndo::Yes => Said {
-            refusal: 0,
-            yes: true,
-        },
-        CanUndo::No => Said {
-            refusal: 0,
-            yes: false,
-        },
-        CanUndo::Refused(why) => Said {
+        Ok(yes) => Said { refusal: 0, yes },
+        Err(why) => Said {
             refusal: why.number(),
             yes: false,
         },
@@ -91,46 +82,41 @@ pub fn told_undoable(can: CanUndo) -> Said
 }
 
 // What is told of the view, whose cursor was to be set.
-pub fn told_cursor(view: View, set: CursorSet) -> Viewed
+pub fn told_cursor(view: View, set: Result<View, BadText>) -> Viewed
     ensures { result ≡ told_view view (paper_cursor_set set) }
 {
     match set {
-        CursorSet::At(after) => Viewed {
+        Ok(after) => Viewed {
             refusal: 0,
             view: after,
         },
-        CursorSet::BadText => Viewed { refusal: 1, view },
+        Err(BadText) => Viewed { refusal: 1, view },
     }
 }
 
-pub fn told_text_read(read: TextRead) -> Count
-    ensures { result ≡ told_count (paper_text read) }
+pub fn told_text_read(read: Result<usize, Refusal>) -> Count
+    ensures { result ≡ told_count (paper read) }
 {
     match read {
-        TextRead::Chars(n) => counted(n),
-        TextRead::Refused(why) => not_counted(why),
+        Ok(n) => counted(n),
+        Err(why) => not_counted(why),
     }
 }
 
-pub fn told_mark_read(read: MarkRead) -> SelFound
+pub fn told_mark_read(read: Result<Sel, BadFrame>) -> SelFound
     ensures { result ≡ told_mark (paper_mark read) }
 {
     match read {
-        MarkRead::Mark(mark) => found_sel(mark),
-        MarkRead::BadFrame => no_sel(10),
+        Ok(mark) => found_sel(mark),
+        Err(BadFrame) => no_sel(10),
     }
 }
 
-pub fn told_edit_read(read: EditRead) -> EditLine
+pub fn told_edit_read(read: Result<EditRead, Refusal>) -> EditLine
     ensures { result ≡ told_read (paper_edit read) }
 {
     match read {
-        EditRead::Edit {
-            edit,
-            payload,
-            first,
-            second,
-        } => line_read(edit, payload, first, second),
-        EditRead::Refused(why) => no_line(why),
+        Ok(found) => line_read(found.edit, found.payload, found.first, found.second),
+        Err(why) => no_line(why),
     }
 }

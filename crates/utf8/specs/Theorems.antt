@@ -1,10 +1,10 @@
 -- What is proved of these definitions, beside that the code meets them. The proofs stand in proofs/Theorems.antt.
-use Rattle.std.specs.Prelude.{true, List, ◌∷◌, ◌++◌, ◌≡◌, ℕ, ◌-◌, ◌≤◌, ◌<◌, length, take}
+use Rattle.std.specs.Prelude.{true, Result, List, ◌∷◌, ◌++◌, ◌≡◌, ℕ, ◌-◌, ◌≤◌, ◌<◌, length, take}
 use Rattle.std.specs.Int.Count.{count_leading_zeros}
 use Rattle.promise.specs.Paper.{done}
 use Rattle.promise.specs.Settled.{Settles}
-use Rattle.utf8.specs.declared.Decoded.{Decoded}
-use Rattle.utf8.specs.declared.Encoded.{Encoded}
+use Rattle.utf8.specs.declared.DecodeError.{DecodeError}
+use Rattle.utf8.specs.declared.EncodeError.{EncodeError}
 use Rattle.utf8.specs.Rfc3629.{UTF8-char, taken}
 use Rattle.utf8.specs.Lead.{announced}
 use Rattle.utf8.specs.Reading.{scalars, bad_at, reading, all_scalar, writing}
@@ -49,7 +49,7 @@ LeadAnnounces = (b : ℕ) (s : List ℕ) → b < 256 → taken UTF8-char (b ∷ 
 pub record Settled : Type 0 where
   pub read_scalar : Settles paper_step
   pub count_scalars : Settles paper_scalar_count
-  pub decode : Settles {A = Decoded × List ℕ} (λ o. outcome (paper_decoded o.0) o.1)
+  pub decode : Settles {A = Result ℕ DecodeError × List ℕ} (λ o. outcome (paper_decoded o.0) o.1)
   pub sequence_of : Settles paper_sequence
   pub count_octets : Settles paper_octet_count
-  pub encode : Settles {A = Encoded × List ℕ} (λ o. outcome (paper_encoded o.0) o.1)
+  pub encode : Settles {A = Result ℕ EncodeError × List ℕ} (λ o. outcome (paper_encoded o.0) o.1)

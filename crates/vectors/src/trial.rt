@@ -1,48 +1,45 @@
 // One call of `decoding` or `encoding` on an array full of one value, held to what it must answer and write.
-use utf8::{Decoded, Encoded};
-
-#[derive(Clone, Copy, Debug, PartialEq, Eq)]
-pub(crate) enum Refused {
-    BadUtf8(usize),
-    BadText,
-    NoRoom,
-}
+use utf8::{DecodeError, EncodeError};
 
 // What a call writes, the other form that it reads, and the call: how much it wrote.
 pub(crate) trait Form: Copy + PartialEq {
     type Other;
 
+    type Error: Copy + PartialEq;
+
     // No scalar, and no octet of UTF-8.
     const FILL: Self;
 
-    fn write(from: &[Self::Other], out: &mut [Self]) -> Result<usize, Refused>;
+    const NO_ROOM: Self::Error;
+
+    fn write(from: &[Self::Other], out: &mut [Self]) -> Result<usize, Self::Error>;
 }
 
 impl Form for u32 {
     type Other = u8;
 
+    type Error = DecodeError;
+
     const FILL: u32 = 0xA5A5A5A5;
 
-    fn write(bytes: &[u8], out: &mut [u32]) -> Result<usize, Refused> {
-        match decoding::decode(bytes, out) {
-            Decoded::Scalars(count) => Ok(count),
-            Decoded::BadUtf8(at) => Err(Refused::BadUtf8(at.0)),
-            Decoded::NoRoom => Err(Refused::NoRoom),
-        }
+    const NO_ROOM: DecodeError = DecodeError::NoRoom;
+
+    fn write(bytes: &[u8], out: &mut [u32]) -> Result<usize, DecodeError> {
+        decoding::decode(bytes, out)
     }
 }
 
 impl Form for u8 {
     type Other = u32;
 
+    type Error = EncodeError;
+
     const FILL: u8 = 0xF5;
 
-    fn write(scalars: &[u32], out: &mut [u8]) -> Result<usize, Refused> {
-        match encoding::encode(scalars, out) {
-            Encoded::Octets(count) => Ok(count),
-            Encoded::BadText => Err(Refused::BadText),
-            Encoded::NoRoom => Err(Refused::NoRoom),
-        }
+    const NO_ROOM: EncodeError = EncodeError::NoRoom;
+
+    fn write(scalars: &[u32], out: &mut [u8]) -> Result<usize, EncodeError> {
+        encoding::encode(scalars, out)
     }
 }
 
@@ -51,7 +48,7 @@ pub(crate) fn gives<T: Form>(
     from: &[T::Other],
     out: &mut [T],
     room: usize,
-    expected: Result<usize, Refused>,
+    expected: Result<usize, T::Error>,
     written: &[T],
 ) -> bool {
     out.fill_with(|| T::FILL);

@@ -1,5 +1,6 @@
-use crate::trial::{Form, Refused, gives};
+use crate::trial::{Form, gives};
 use lines::read_numbers;
+use utf8::{ByteOffset, DecodeError, EncodeError};
 
 // The most numbers on a side of a line: fewer than a trial has room for.
 const MOST: usize = 63;
@@ -21,11 +22,11 @@ fn comes_out<T: Form>(from: &[T::Other], written: &[T], out: &mut [T]) -> bool {
     let room = out.len();
     gives(from, out, room, Ok(count), written)
         && gives(from, out, count, Ok(count), written)
-        && (count == 0 || gives(from, out, count - 1, Err(Refused::NoRoom), &[]))
+        && (count == 0 || gives(from, out, count - 1, Err(T::NO_ROOM), &[]))
 }
 
 // A refusal for what the input holds comes before one for want of room.
-fn is_refused<T: Form>(from: &[T::Other], why: Refused, out: &mut [T]) -> bool {
+fn is_refused<T: Form>(from: &[T::Other], why: T::Error, out: &mut [T]) -> bool {
     let room = out.len();
     gives(from, out, room, Err(why), &[]) && gives(from, out, 0, Err(why), &[])
 }
@@ -51,8 +52,12 @@ fn judge(mark: u8, left: &[u8], right: &[u32]) -> bool {
     let mut bytes = [0; ROOM];
     match (mark, right) {
         (b'=', _) => comes_out(left, right, &mut scalars) && comes_out(right, left, &mut bytes),
-        (b'!', [at]) => is_refused(left, Refused::BadUtf8(*at as usize), &mut scalars),
-        (b'?', _) => left.is_empty() && is_refused(right, Refused::BadText, &mut bytes),
+        (b'!', [at]) => is_refused(
+            left,
+            DecodeError::BadUtf8(ByteOffset(*at as usize)),
+            &mut scalars,
+        ),
+        (b'?', _) => left.is_empty() && is_refused(right, EncodeError::BadText, &mut bytes),
         _ => false,
     }
 }

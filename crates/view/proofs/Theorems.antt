@@ -6,35 +6,33 @@ use Rattle.promise.specs.Paper.{Paper, done, refused}
 use Rattle.promise.proofs.Settled.{settled}
 use Rattle.edit.specs.declared.Refusal.{Refusal}
 use Rattle.edit.specs.declared.View.{View}
-use Rattle.edit.specs.Call.{lent, undoable}
+use Rattle.edit.specs.Call.{paper, lent, undoable}
 use Rattle.edit.proofs.Theorems.{refusal_back, refusal_back_lem}
-use Rattle.view.specs.declared.CanUndo.{CanUndo}
-use Rattle.view.specs.declared.CursorSet.{CursorSet}
-use Rattle.view.specs.Answers.{paper_undoable, paper_cursor_set}
+use Rattle.view.specs.Answers.{paper_cursor_set}
 use Rattle.view.specs.Theorems.{Settled}
 use Rattle.text.proofs.Theorems as text
-use Rattle.view.specs.declared.CanUndo.TheVariants as can_undo
-use Rattle.view.specs.declared.CursorSet.TheVariants as cursor_set
+use Rattle.std.specs.Prelude.{Result, Ok, Err}
+use Rattle.utf8.specs.declared.BadText.{BadText}
 
-undoable_back : Paper Bool → CanUndo
-undoable_back (done true) = can_undo.Yes
-undoable_back (done false) = can_undo.No
-undoable_back (refused n k) = can_undo.Refused (refusal_back n k)
+undoable_back : Paper Bool → Result Bool Refusal
+undoable_back (done true) = Ok true
+undoable_back (done false) = Ok false
+undoable_back (refused n k) = Err (refusal_back n k)
 
-undoable-back : (x : CanUndo) → undoable_back (paper_undoable x) ≡ x
+undoable-back : (x : Result Bool Refusal) → undoable_back (paper x) ≡ x
 unfolding undoable_back
-undoable-back can_undo.Yes = refl
-undoable-back can_undo.No = refl
-undoable-back (can_undo.Refused r) = ap (λ (r : Refusal). can_undo.Refused r) (refusal_back_lem r)
+undoable-back (Ok true) = refl
+undoable-back (Ok false) = refl
+undoable-back (Err r) = ap (λ (r : Refusal). Err r) (refusal_back_lem r)
 
-cursor_back : Paper View → CursorSet
-cursor_back (done v) = cursor_set.At v
-cursor_back (refused n k) = cursor_set.BadText
+cursor_back : Paper View → Result View BadText
+cursor_back (done v) = Ok v
+cursor_back (refused n k) = Err (record {})
 
-cursor_back_lem : (x : CursorSet) → cursor_back (paper_cursor_set x) ≡ x
+cursor_back_lem : (x : Result View BadText) → cursor_back (paper_cursor_set x) ≡ x
 unfolding cursor_back
-cursor_back_lem (cursor_set.At v) = refl
-cursor_back_lem cursor_set.BadText = refl
+cursor_back_lem (Ok v) = refl
+cursor_back_lem (Err e) = refl
 
 pub promises_settle : Settled
 promises_settle =

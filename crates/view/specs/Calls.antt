@@ -8,13 +8,13 @@ use Rattle.text.specs.Text.{is_lf}
 use Rattle.text.specs.Calls.{on_text}
 use Rattle.edit.specs.declared.View.{View}
 use Rattle.edit.specs.declared.Edit.{Edit}
-use Rattle.edit.specs.Call.{lent, undoable}
-use Rattle.view.specs.declared.CanUndo.{CanUndo}
-use Rattle.view.specs.Answers.{paper_undoable}
+use Rattle.edit.specs.Call.{paper, lent, undoable}
+use Rattle.std.specs.Prelude.{Result, Ok, Err, Bool, true, false}
+use Rattle.edit.specs.declared.Refusal.{Refusal}
 
--- What `undoable` promises. It is lent no slices for an inverse; its answer is the one for any.
-abbrev pub UndoablePromised : CanUndo → List ℕ → View → Edit → List ℕ → List ℕ → List ℕ → Type 0
-UndoablePromised r buffer v e payload first second = (ox of os : List ℕ) → paper_undoable r ≡ undoable v e (lent buffer payload first second ox of os)
+-- What `undoable` promises: "`undoable` says yes exactly for the kinds and conditions of demand 3; it refuses by rows 1 to 4 below." It is lent no slices for an inverse; its answer is the one for any.
+abbrev pub UndoablePromised : Result Bool Refusal → List ℕ → View → Edit → List ℕ → List ℕ → List ℕ → Type 0
+UndoablePromised r buffer v e payload first second = (ox of os : List ℕ) → paper r ≡ undoable v e (lent buffer payload first second ox of os)
 
 -- the counter counts edits, and this is none
 abbrev pub with_cursor : View → Position → View

@@ -7,8 +7,7 @@ ghost use Rattle.edit.specs.Refusals.{wide};
 ghost use Rattle.edit.specs.Call.{range_undoable, is_undoable};
 ghost use Rattle.view.specs.Calls.{UndoablePromised};
 
-use crate::CanUndo;
-use edit::{Edit, MotionKind, Verdict, View, extent};
+use edit::{Edit, MotionKind, Refusal, View, extent};
 use given::judge;
 use rows::{contains, last_row, line_to_char};
 use text::{Col, LF, Position};
@@ -81,6 +80,7 @@ fn is_undoable(text: &[u32], edit: Edit) -> bool
     }
 }
 
+// Whether the edit's inverse gives the text back.
 pub fn undoable(
     buffer: &[u32],
     view: View,
@@ -88,17 +88,10 @@ pub fn undoable(
     payload: &[u32],
     first: &[u32],
     second: &[u32],
-) -> CanUndo
+) -> Result<bool, Refusal>
     ensures { UndoablePromised result buffer.now view edit payload.now first.now second.now }
 {
-    let verdict = judge(buffer, view, edit, payload, first, second);
-    if let Verdict::Bad(why) = verdict {
-        return CanUndo::Refused(why);
-    }
+    judge(buffer, view, edit, payload, first, second)?;
     let used = view.used;
-    if is_undoable(&buffer[0..used], edit) {
-        CanUndo::Yes
-    } else {
-        CanUndo::No
-    }
+    Ok(is_undoable(&buffer[0..used], edit))
 }

@@ -11,16 +11,13 @@
 mod entry;
 
 use entry::{cut, read_entry};
-use fit::{BoxFit, box_fit};
+use fit::box_fit;
 use lines::read_text;
 use std::io;
 
 // Whether a character leaves a box of one cell by itself.
 fn is_wide(point: u32) -> bool {
-    match box_fit(&[point], 1, 1, 1) {
-        BoxFit::Leaves(_) => true,
-        BoxFit::AllFit | BoxFit::BadText | BoxFit::TooBig => false,
-    }
+    matches!(box_fit(&[point], 1, 1, 1), Ok(Some(_)))
 }
 
 // Prints a line, and answers how many of its code points are wide: none, if it is malformed.

@@ -2,7 +2,7 @@
 use mathlib.Core.Path.{◌≡◌, sym, ap, ap₂, ◌∙◌}
 use mathlib.Core.Bool.{Bool}
 use mathlib.Core.List.{List, []}
-use mathlib.Core.Option.{Option, none, some}
+use Rattle.std.specs.Prelude.{Option, None, Some}
 use Prim.Native.Nat.{ℕ}
 use Rattle.promise.specs.Paper.{Paper, refused}
 use Rattle.utf8.specs.Calls.{Outcome, outcome}
@@ -24,18 +24,15 @@ use Rattle.plain.specs.declared.Change.{Change}
 use Rattle.plain.specs.declared.Count.{Count}
 use Rattle.plain.specs.declared.EditLine.{EditLine}
 use Rattle.plain.specs.declared.Found.{Found}
-use Rattle.plain.specs.declared.MeantEdit.{MeantEdit}
-use Rattle.plain.specs.declared.MeantEdit.TheVariants as as_edit
-use Rattle.plain.specs.declared.MeantSelection.{MeantSelection}
-use Rattle.plain.specs.declared.MeantSelection.TheVariants as as_meant
 use Rattle.plain.specs.declared.Numbers.{Numbers}
 use Rattle.plain.specs.declared.Said.{Said}
 use Rattle.plain.specs.declared.SelFound.{SelFound}
-use Rattle.plain.specs.Meanings.{item, meant, selections, paper_meant, paper_selection}
+use Rattle.plain.specs.Meanings.{item, meant, selections}
 use Rattle.plain.specs.Told.{told_count, told_applied, not_found, no_sel, told_yes}
 use Rattle.told.specs.Shifts.{told_shifted, told_sel_shifted}
 use Rattle.told.specs.Lines.{told_read}
 use Rattle.winchbarn.specs.Calls.{counted, Changed, changed, ChangedIn, changed_in, framed, told_into, told_merge, told_call, told_frame, of_kind, edit_call, edit_call_in, line_call, undoable_call, shift_call, sel_call}
+use Rattle.std.specs.Prelude.{Some, None}
 
 pub told_into_lem : (r : Count) (a : Paper ℕ) (o : List ℕ) (w : Outcome) → r ≡ told_count a → outcome a o ≡ w → counted r o ≡ told_into w
 told_into_lem r a o w e q = ap (λ (c : Count). counted c o) e ∙ ap told_into q
@@ -56,19 +53,19 @@ pub told_frame_lem : (r : EditLine) (a : Paper Read) (x f s : List ℕ) (w : Fil
 told_frame_lem r a x f s w e q = ap (λ (c : EditLine). framed c x f s) e ∙ ap told_frame q
 
 -- what is chosen by a kind
-of_some : {A B : Type 0} (o : Option A) (b : B) (f : A → B) (a : A) → some a ≡ o → f a ≡ of_kind o b f
+of_some : {A B : Type 0} (o : Option A) (b : B) (f : A → B) (a : A) → Some a ≡ o → f a ≡ of_kind o b f
 of_some {A = A} o b f a q = ap (λ (x : Option A). of_kind x b f) q
 
-of_none : {A B : Type 0} (o : Option A) (b : B) (f : A → B) → none ≡ o → b ≡ of_kind o b f
+of_none : {A B : Type 0} (o : Option A) (b : B) (f : A → B) → None ≡ o → b ≡ of_kind o b f
 of_none {A = A} o b f q = ap (λ (x : Option A). of_kind x b f) q
 
 -- ---- the numbers n meant m
 
-module _ (n : Numbers) (m : MeantEdit) (h : paper_meant m ≡ meant n) where
+module _ (n : Numbers) (m : Option Edit) (h : m ≡ meant n) where
   -- an edit e
-  module _ (e : Edit) (q : m ≡ as_edit.Edit e) where
-    it : some e ≡ meant n
-    it = ap paper_meant (sym q) ∙ h
+  module _ (e : Edit) (q : m ≡ Some e) where
+    it : Some e ≡ meant n
+    it = sym q ∙ h
 
     pub edit_called : (v : View) (l : edits.Lent) (r : Change) (a : Paper Applied) (t x f s : List ℕ) → r ≡ told_applied v a
         → edits.outcome a t x f s ≡ edits.applied v e l → changed r t x f s ≡ edit_call v n l
@@ -92,9 +89,9 @@ module _ (n : Numbers) (m : MeantEdit) (h : paper_meant m ≡ meant n) where
     sel-called b v x f s l r a k w = k ∙ ap told_sel_shifted (w ∙ of_some (meant n) (refused 10 0) (λ d. sel_shifted b v.used d x f s l) e it)
 
   -- nothing
-  module _ (q : m ≡ as_edit.NoKind) where
-    nothing : none ≡ meant n
-    nothing = ap paper_meant (sym q) ∙ h
+  module _ (q : m ≡ None) where
+    nothing : None ≡ meant n
+    nothing = sym q ∙ h
 
     pub edit_kindless : (v : View) (l : edits.Lent) (r : Change) → r ≡ told_applied v (refused 10 0)
         → changed r l.buffer l.out_payload l.out_first l.out_second ≡ edit_call v n l
@@ -114,9 +111,9 @@ module _ (n : Numbers) (m : MeantEdit) (h : paper_meant m ≡ meant n) where
 
 -- ---- the kind k of a selection meant m: f of the selection, or b
 
-module _ {A : Type 0} (k : ℕ) (l : Sel) (m : MeantSelection) (h : paper_selection m ≡ item (selections l) k) (r b : A) (f : Selection → A) where
-  pub by_kind : (s : Selection) → m ≡ as_meant.Selection s → r ≡ f s → r ≡ of_kind (item (selections l) k) b f
-  by_kind s q e = e ∙ of_some (item (selections l) k) b f s (ap paper_selection (sym q) ∙ h)
+module _ {A : Type 0} (k : ℕ) (l : Sel) (m : Option Selection) (h : m ≡ item (selections l) k) (r b : A) (f : Selection → A) where
+  pub by_kind : (s : Selection) → m ≡ Some s → r ≡ f s → r ≡ of_kind (item (selections l) k) b f
+  by_kind s q e = e ∙ of_some (item (selections l) k) b f s (sym q ∙ h)
 
-  pub kindless : m ≡ as_meant.NoKind → r ≡ b → r ≡ of_kind (item (selections l) k) b f
-  kindless q e = e ∙ of_none (item (selections l) k) b f (ap paper_selection (sym q) ∙ h)
+  pub kindless : m ≡ None → r ≡ b → r ≡ of_kind (item (selections l) k) b f
+  kindless q e = e ∙ of_none (item (selections l) k) b f (sym q ∙ h)

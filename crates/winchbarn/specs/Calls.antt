@@ -1,7 +1,7 @@
 -- What each function leaves for a caller of C: its answer in numbers, and every slice that it may write. What is called is the core's own
 -- meaning; beside that stands what C needs: a kind by its number, and 10 where that is none.
 use Rattle.std.specs.Prelude.{List, [], ℕ}
-use Rattle.std.proofs.Math.Option.{Option, none, some}
+use Rattle.std.specs.Prelude.{Option, None, Some}
 use Rattle.promise.specs.Paper.{refused}
 use Rattle.utf8.specs.Calls.{Outcome, outcome}
 use Rattle.text.specs.declared.Position.{Position}
@@ -85,8 +85,8 @@ told_frame o = framed (told_read o.answer) o.payload o.first o.second
 -- ---- calls with a kind: b where it is none
 
 abbrev pub of_kind : {A B : Type 0} → Option A → B → (A → B) → B
-of_kind none b f = b
-of_kind (some a) b f = f a
+of_kind None b f = b
+of_kind (Some a) b f = f a
 
 -- "nothing lent changes"
 abbrev pub edit_call : View → Numbers → Lent → Changed

@@ -29,7 +29,7 @@ use fit::box_fit;
 use framed::apply_frame;
 use merge::merge_overlapping;
 use plain::{
-    Bounds, Change, Count, Cover, EditLine, Found, MeantEdit, MeantSelection, Numbers, Said,
+    Bounds, Change, Count, Cover, EditLine, Found, Numbers, Said,
     SelFound, Viewed, found_at, found_sel, meant_edit, meant_selection, no_bounds, no_cover,
     no_sel, not_changed, not_counted, not_found, told_answer, told_bounds, told_clamped,
     told_decoded, told_encoded, told_ends, told_fit, told_span,
@@ -67,13 +67,13 @@ pub fn winchbarn_apply_edit(
 {
     let meant = meant_edit(edit);
     match meant {
-        MeantEdit::Edit(e) => {
+        Some(e) => {
             let answer = apply_edit(
                 text, view, e, payload, first, second, outpayload, outfirst, outsecond,
             );
             told_answer(view, answer)
         }
-        MeantEdit::NoKind => not_changed(view, Refusal::BadFrame),
+        None => not_changed(view, Refusal::BadFrame),
     }
 }
 
@@ -130,8 +130,8 @@ pub fn winchbarn_write_edit(
 {
     let meant = meant_edit(edit);
     match meant {
-        MeantEdit::Edit(e) => told_written(write_edit(e, payload, first, second, out)),
-        MeantEdit::NoKind => not_counted(Refusal::BadFrame),
+        Some(e) => told_written(write_edit(e, payload, first, second, out)),
+        None => not_counted(Refusal::BadFrame),
     }
 }
 
@@ -182,8 +182,8 @@ pub fn winchbarn_undoable(
 {
     let meant = meant_edit(edit);
     match meant {
-        MeantEdit::Edit(e) => told_undoable(undoable(text, view, e, payload, first, second)),
-        MeantEdit::NoKind => Said {
+        Some(e) => told_undoable(undoable(text, view, e, payload, first, second)),
+        None => Said {
             refusal: 10,
             yes: false,
         },
@@ -221,10 +221,10 @@ pub fn winchbarn_shift_position(
 {
     let meant = meant_edit(edit);
     match meant {
-        MeantEdit::Edit(e) => {
+        Some(e) => {
             told_shifted(shift_position(text, view, e, payload, first, second, pos))
         }
-        MeantEdit::NoKind => not_found(10),
+        None => not_found(10),
     }
 }
 
@@ -241,10 +241,10 @@ pub fn winchbarn_shift_sel(
 {
     let meant = meant_edit(edit);
     match meant {
-        MeantEdit::Edit(e) => {
+        Some(e) => {
             told_sel_shifted(shift_sel(text, view, e, payload, first, second, sel))
         }
-        MeantEdit::NoKind => no_sel(10),
+        None => no_sel(10),
     }
 }
 
@@ -289,8 +289,8 @@ pub fn winchbarn_selection_head(kind: u32, sel: Sel) -> Found
 {
     let meant = meant_selection(kind, sel);
     match meant {
-        MeantSelection::Selection(s) => found_at(s.head()),
-        MeantSelection::NoKind => not_found(10),
+        Some(s) => found_at(s.head()),
+        None => not_found(10),
     }
 }
 
@@ -299,8 +299,8 @@ pub fn winchbarn_selection_anchor(kind: u32, sel: Sel) -> Found
 {
     let meant = meant_selection(kind, sel);
     match meant {
-        MeantSelection::Selection(s) => found_at(s.anchor()),
-        MeantSelection::NoKind => not_found(10),
+        Some(s) => found_at(s.anchor()),
+        None => not_found(10),
     }
 }
 
@@ -309,8 +309,8 @@ pub fn winchbarn_selection_extend_to(kind: u32, sel: Sel, pos: Position) -> SelF
 {
     let meant = meant_selection(kind, sel);
     match meant {
-        MeantSelection::Selection(s) => found_sel(told_ends(s.extend_to(pos))),
-        MeantSelection::NoKind => no_sel(10),
+        Some(s) => found_sel(told_ends(s.extend_to(pos))),
+        None => no_sel(10),
     }
 }
 
@@ -319,8 +319,8 @@ pub fn winchbarn_selection_row_bounds(kind: u32, sel: Sel) -> Bounds
 {
     let meant = meant_selection(kind, sel);
     match meant {
-        MeantSelection::Selection(s) => told_bounds(s.row_bounds()),
-        MeantSelection::NoKind => no_bounds(10),
+        Some(s) => told_bounds(s.row_bounds()),
+        None => no_bounds(10),
     }
 }
 
@@ -329,8 +329,8 @@ pub fn winchbarn_row_span(kind: u32, sel: Sel, row: u32) -> Cover
 {
     let meant = meant_selection(kind, sel);
     match meant {
-        MeantSelection::Selection(s) => told_span(s.row_span(Row(row))),
-        MeantSelection::NoKind => no_cover(10),
+        Some(s) => told_span(s.row_span(Row(row))),
+        None => no_cover(10),
     }
 }
 

@@ -21,15 +21,11 @@ use Rattle.edit.specs.declared.View.{View}
 use Rattle.edit.specs.declared.MotionKind.TheVariants.{Char}
 use Rattle.edit.specs.declared.Edit.TheVariants.{InsertStr, DeleteRange, Replace}
 use Rattle.edit.specs.declared.Refusal.{Refusal}
-use Rattle.edit.specs.declared.Verdict.{Verdict}
-use Rattle.edit.specs.declared.Verdict.TheVariants.{Fine, Bad}
 use Rattle.edit.specs.declared.Room.{Room}
 use Rattle.edit.specs.declared.Plan.{Plan}
-use Rattle.edit.specs.declared.Answer.{Answer}
-use Rattle.edit.specs.declared.Answer.TheVariants.{Done}
 use Rattle.edit.specs.Edits.{Edited, cut_to, inserted, chars_deleted, range_deleted, replaced, edited_by}
 use Rattle.edit.specs.Refusals.{room_ok, record_ok}
-use Rattle.edit.specs.Call.{number_of, offset_of, paper_answer, paper_verdict, verdict_of, Lent, lent, outcome, result_of, result_tests, room_of, plan_of, applied_as, finished}
+use Rattle.edit.specs.Call.{paper, number_of, offset_of, verdict_of, Lent, lent, outcome, result_of, result_tests, room_of, plan_of, applied_as, finished}
 use Rattle.edit.proofs.Workers.{worked_fits, worked_refused, worked_done}
 use Rattle.steps.specs.declared.Resolved.{Resolved}
 use Rattle.steps.specs.Steps.{woven, cut_of}
@@ -40,6 +36,8 @@ use Rattle.single.proofs.Resolving.{inserting, insert-resolves}
 use Rattle.work.specs.Answers.{done_as}
 use Rattle.work.specs.declared.Inserted.{Inserted}
 use Rattle.work.proofs.Working.{agreed}
+use Rattle.std.specs.Prelude.{Result, Ok, Err}
+use Rattle.edit.specs.declared.Applied.{Applied}
 
 inserted-length : (t : List ℕ) (p : Position) (x : List ℕ) → length (inserted is_lf t p x).text ≡ length t + length x
 unfolding inserted
@@ -95,12 +93,12 @@ module _ (v : View) (b x : List ℕ) (p q : Position) (h : v.used ≤ length b) 
         let m : length (chars_deleted is_lf t p q).inverse.payload ≡ gone = ap (λ (p : Plan). p.payload) cut_plan ∙ sym eg in
         rw (n, m)
 
-    module _ (T : Room) (w : Verdict) (hw : (d : Edited ℕ) → plan_of d ≡ record { used = left + length x; payload = gone; first = 0; second = 0 } → paper_verdict w ≡ verdict_of (result_tests true T d)) where
-      judged : paper_verdict w ≡ verdict_of (result_tests true T d)
+    module _ (T : Room) (w : Result (Unit {0}) Refusal) (hw : (d : Edited ℕ) → plan_of d ≡ record { used = left + length x; payload = gone; first = 0; second = 0 } → paper w ≡ verdict_of (result_tests true T d)) where
+      judged : paper w ≡ verdict_of (result_tests true T d)
       judged = hw d replace_plan
 
       -- the inverse has no lists, so any room for them will do
-      judged_in : (o : List ℕ) (L : Lent) → L.buffer ≡ b → L.out_payload ≡ o → T.buffer ≡ length b → T.payload ≡ length o → paper_verdict w ≡ verdict_of (result_tests true (room_of L) d)
+      judged_in : (o : List ℕ) (L : Lent) → L.buffer ≡ b → L.out_payload ≡ o → T.buffer ≡ length b → T.payload ≡ length o → paper w ≡ verdict_of (result_tests true (room_of L) d)
       unfolding room_ok record_ok replaced chars_deleted
       judged_in o L q₁ q₂ et ep =
           let m : T.buffer ≡ length L.buffer = et ∙ sym (ap length q₁) in
@@ -111,14 +109,14 @@ module _ (v : View) (b x : List ℕ) (p q : Position) (h : v.used ≤ length b) 
           let k : leb (length d.inverse.second) (length L.out_second) ≡ true = le-leb 0 (length L.out_second) (omega arith) in
           rw (g, k) (rw (m, n, f, s) at judged)
 
-      pub replace_fits : w ≡ Fine → (left + length x ≤ T.buffer) × (left + length x ≤ 16_384) × (gone ≤ T.payload)
+      pub replace_fits : w ≡ Ok tt → (left + length x ≤ T.buffer) × (left + length x ≤ 16_384) × (gone ≤ T.payload)
       replace_fits z =
           let F = worked_fits true T d w judged z in
           let n : length d.text ≡ left + length x = ap (λ (p : Plan). p.used) replace_plan in
           let m : length d.inverse.payload ≡ gone = ap (λ (p : Plan). p.payload) replace_plan in
           (omega (arith, F.buffer), omega (arith, F.limit), omega (arith, F.payload))
 
-      pub replace_refused : (why : Refusal) → w ≡ Bad why → (o : List ℕ) → T.buffer ≡ length b → T.payload ≡ length o → (L : Lent) → L.buffer ≡ b → L.payload ≡ x → L.out_payload ≡ o
+      pub replace_refused : (why : Refusal) → w ≡ Err why → (o : List ℕ) → T.buffer ≡ length b → T.payload ≡ length o → (L : Lent) → L.buffer ≡ b → L.payload ≡ x → L.out_payload ≡ o
           → outcome (refused (number_of why) (offset_of why)) b o L.out_first L.out_second ≡ finished true v L (result_of v (Replace p q) L)
       unfolding result_of edited_by
       replace_refused why z o et ep L q₁ q₂ q₃ =
@@ -145,7 +143,7 @@ module _ (v : View) (b x : List ℕ) (p q : Position) (h : v.used ≤ length b) 
           in_left : inserted is_lf (take left b₁) s x ≡ i
           in_left = rw (cut_left, es)
 
-          put-text : w ≡ Fine → T.buffer ≡ length b → b₂ ≡ renewed b v.used d.text
+          put-text : w ≡ Ok tt → T.buffer ≡ length b → b₂ ≡ renewed b v.used d.text
           unfolding replaced chars_deleted
           put-text k et =
               let F = replace_fits k in
@@ -153,16 +151,16 @@ module _ (v : View) (b x : List ℕ) (p q : Position) (h : v.used ≤ length b) 
               e₂ ∙ ap (λ (D : Edited ℕ). renewed b₁ left D.text) in_left ∙ ap (λ (y : List ℕ). renewed y left i.text) cut_text ∙ ap (λ (n : ℕ). renewed (renewed b v.used u) n i.text) (sym left_is)
               ∙ renewed-twice b v.used u i.text (omega (arith, n, left_is)) h (omega (arith, F.0, n))
 
-          pub replace_done : w ≡ Fine → T.buffer ≡ length b → T.payload ≡ length o → (g z : Position) → g ≡ clamp is_lf (take left b₁) s → z ≡ (inserted is_lf (take left b₁) s x).cursor
-              → (a : Answer) → a ≡ Done (done_as v (record { used = left + length x; payload = gone; first = 0; second = 0 }) z (Replace g z))
-              → (L : Lent) → L.buffer ≡ b → L.payload ≡ x → L.out_payload ≡ o → outcome (paper_answer a) b₂ o' L.out_first L.out_second ≡ finished true v L (result_of v (Replace p q) L)
+          pub replace_done : w ≡ Ok tt → T.buffer ≡ length b → T.payload ≡ length o → (g z : Position) → g ≡ clamp is_lf (take left b₁) s → z ≡ (inserted is_lf (take left b₁) s x).cursor
+              → (a : Result Applied Refusal) → a ≡ Ok (done_as v (record { used = left + length x; payload = gone; first = 0; second = 0 }) z (Replace g z))
+              → (L : Lent) → L.buffer ≡ b → L.payload ≡ x → L.out_payload ≡ o → outcome (paper a) b₂ o' L.out_first L.out_second ≡ finished true v L (result_of v (Replace p q) L)
           unfolding result_of edited_by replaced chars_deleted
           replace_done k et ep g z eg ez a ea L q₁ q₂ q₃ =
               let m : g ≡ clamp is_lf u (earlier p q) = eg ∙ rw (cut_left, es) in
               let n : z ≡ i.cursor = ez ∙ ap (λ (D : Edited ℕ). D.cursor) in_left in
               let e_a : done_as v (record { used = left + length x; payload = gone; first = 0; second = 0 }) z (Replace g z) ≡ applied_as v d =
               ap (λ (P : Plan). done_as v P z (Replace g z)) (sym replace_plan) ∙ ap (λ (c : Position). done_as v (plan_of d) c (Replace g c)) n ∙ ap (λ (c : Position). done_as v (plan_of d) i.cursor (Replace c i.cursor)) m in
-              subst (λ (L : Lent). outcome (paper_answer a) b₂ o' L.out_first L.out_second ≡ finished true v L (result_of v (Replace p q) L))
+              subst (λ (L : Lent). outcome (paper a) b₂ o' L.out_first L.out_second ≡ finished true v L (result_of v (Replace p q) L))
               (agreed b x L.first L.second o L.out_first L.out_second L q₁ q₂ refl refl q₃ refl refl)
               (let M = lent b x L.first L.second o L.out_first L.out_second in rw ea (worked_done true (room_of M) d w (judged_in o M refl refl et ep) v M refl k _ b₂ o' L.out_first L.out_second e_a (put-text k et) cut_record refl refl))
 

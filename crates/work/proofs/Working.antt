@@ -16,15 +16,11 @@ use Rattle.text.proofs.Renewed.{renewed-text}
 use Rattle.edit.specs.declared.View.{View}
 use Rattle.edit.specs.declared.Edit.{Edit}
 use Rattle.edit.specs.declared.Refusal.{Refusal}
-use Rattle.edit.specs.declared.Verdict.{Verdict}
-use Rattle.edit.specs.declared.Verdict.TheVariants.{Fine, Bad}
 use Rattle.edit.specs.declared.Room.{Room}
 use Rattle.edit.specs.declared.Plan.{Plan}
-use Rattle.edit.specs.declared.Answer.{Answer}
-use Rattle.edit.specs.declared.Answer.TheVariants.{Done}
 use Rattle.edit.specs.Edits.{Edited, edited_by}
 use Rattle.edit.specs.Refusals.{is_space, spaces, within_ok}
-use Rattle.edit.specs.Call.{number_of, offset_of, paper_answer, paper_verdict, verdict_of, Lent, lent, outcome, text_of, result_of, result_tests, plan_of, applied_as, finished}
+use Rattle.edit.specs.Call.{paper, number_of, offset_of, verdict_of, Lent, lent, outcome, text_of, result_of, result_tests, plan_of, applied_as, finished}
 use Rattle.edit.proofs.Workers.{worked_fits, worked_refused, worked_done}
 use Rattle.steps.specs.declared.Resolved.{Resolved}
 use Rattle.steps.specs.Steps.{woven, cut_of}
@@ -37,6 +33,8 @@ use Rattle.recording.specs.Recorded.{first_by, second_by, first_long, second_lon
 use Rattle.recording.proofs.Inverses.{first_count, second_count, first_made, second_made}
 use Rattle.resolve.specs.Admits.{Admitted, cut_first}
 use Rattle.work.specs.Answers.{done_as}
+use Rattle.std.specs.Prelude.{Result, Ok, Err}
+use Rattle.edit.specs.declared.Applied.{Applied}
 
 -- the cursor, from where it is clamped
 pub cursor_kept : (t : List ℕ) (c : Position) (b : Bool) → b ≡ true → c ≡ cond b c (clamp is_lf t c)
@@ -105,11 +103,11 @@ module _ (v : View) (e : Edit) (b x f s : List ℕ) (h : v.used ≤ length b) (r
     plan_is : plan_of d ≡ p
     plan_is = planned r l e x f s t R ∙ ap (λ (n : ℕ). record { used = size_by r.steps l 0 n; payload = cut_by r.steps l; first = r.first; second = r.second }) (long ∙ sym lent-long) ∙ sym ep
 
-    module _ (T : Room) (w : Verdict) (hw : (d : Edited ℕ) → plan_of d ≡ p → paper_verdict w ≡ verdict_of (result_tests r.within T d)) where
-      judged : paper_verdict w ≡ verdict_of (result_tests (within_ok t e f s) T d)
+    module _ (T : Room) (w : Result (Unit {0}) Refusal) (hw : (d : Edited ℕ) → plan_of d ≡ p → paper w ≡ verdict_of (result_tests r.within T d)) where
+      judged : paper w ≡ verdict_of (result_tests (within_ok t e f s) T d)
       judged = hw d plan_is ∙ ap (λ (q : Bool). verdict_of (result_tests q T d)) R.within
 
-      fits : w ≡ Fine → (p.used ≤ T.buffer) × (p.used ≤ 16_384) × (p.payload ≤ T.payload) × (p.first ≤ T.first) × (p.second ≤ T.second)
+      fits : w ≡ Ok tt → (p.used ≤ T.buffer) × (p.used ≤ 16_384) × (p.payload ≤ T.payload) × (p.first ≤ T.first) × (p.second ≤ T.second)
       fits q =
           let F = worked_fits (within_ok t e f s) T d w judged q in
           let u : length d.text ≡ p.used = ap (λ (p : Plan). p.used) plan_is in
@@ -118,7 +116,7 @@ module _ (v : View) (e : Edit) (b x f s : List ℕ) (h : v.used ≤ length b) (r
           let k : length d.inverse.second ≡ p.second = ap (λ (p : Plan). p.second) plan_is in
           (omega (arith, F.buffer), omega (arith, F.limit), omega (arith, F.payload), omega (arith, F.first), omega (arith, F.second))
 
-      pub work_asks : (op of os : List ℕ) → T ≡ record { buffer = length b; payload = length op; first = length of; second = length os } → w ≡ Fine → Asks v e b f r l p op of os
+      pub work_asks : (op of os : List ℕ) → T ≡ record { buffer = length b; payload = length op; first = length of; second = length os } → w ≡ Ok tt → Asks v e b f r l p op of os
       work_asks op of os e_t q =
           let F = fits q in
           let A = planned_passed r l e x f s t R in
@@ -158,18 +156,18 @@ module _ (v : View) (e : Edit) (b x f s : List ℕ) (h : v.used ≤ length b) (r
         q : lent b x f s op of os ≡ L
         q = agreed b x f s op of os L e₁ e₂ e₃ e₄ e₅ e₆ e₇
 
-        pub work_refused : (why : Refusal) → w ≡ Bad why → outcome (refused (number_of why) (offset_of why)) b op of os ≡ finished (within_ok (text_of v L) e L.first L.second) v L (result_of v e L)
+        pub work_refused : (why : Refusal) → w ≡ Err why → outcome (refused (number_of why) (offset_of why)) b op of os ≡ finished (within_ok (text_of v L) e L.first L.second) v L (result_of v e L)
         unfolding result_of
         work_refused why z =
             subst (λ (L : Lent). outcome (refused (number_of why) (offset_of why)) b op of os ≡ finished (within_ok (text_of v L) e L.first L.second) v L (result_of v e L)) q
             (worked_refused (within_ok t e f s) T d w judged v (lent b x f s op of os) (sym e_t) why z)
 
-        pub work_done : w ≡ Fine → (a : Answer) (c : Position) (b' op' of' os' : List ℕ) → a ≡ Done (done_as v p c r.inverse)
+        pub work_done : w ≡ Ok tt → (a : Result Applied Refusal) (c : Position) (b' op' of' os' : List ℕ) → a ≡ Ok (done_as v p c r.inverse)
             → c ≡ cond r.settled r.cursor (clamp is_lf (take (p.used - 0) (drop 0 b')) r.cursor)
             → b' ≡ renewed b v.used (woven r.made (steps_of r.steps l x) t)
             → op' ≡ over (cut_of (steps_of r.steps l x) (take (v.used - 0) (drop 0 b))) op
             → of' ≡ over d.inverse.first of → os' ≡ over d.inverse.second os
-            → outcome (paper_answer a) b' op' of' os' ≡ finished (within_ok (text_of v L) e L.first L.second) v L (result_of v e L)
+            → outcome (paper a) b' op' of' os' ≡ finished (within_ok (text_of v L) e L.first L.second) v L (result_of v e L)
         unfolding result_of
         work_done z a c b' op' of' os' ea ec eb eo ef es =
             let et : b' ≡ renewed b v.used d.text = eb ∙ ap (renewed b v.used) (planned_text r l e x f s t R) in
@@ -178,5 +176,5 @@ module _ (v : View) (e : Edit) (b x f s : List ℕ) (h : v.used ≤ length b) (r
             let en : take (p.used - 0) (drop 0 b') ≡ d.text = front b' p.used ∙ ap (λ (n : ℕ). take n b') (sym eu) ∙ ap (take (length d.text)) et ∙ renewed-text b v.used d.text in
             let ek : c ≡ d.cursor = ec ∙ ap (λ (u : List ℕ). cond r.settled r.cursor (clamp is_lf u r.cursor)) en ∙ R.cursor in
             let e_a : done_as v p c r.inverse ≡ applied_as v d = rw (ek, R.inverse, ← plan_is) in
-            subst (λ (L : Lent). outcome (paper_answer a) b' op' of' os' ≡ finished (within_ok (text_of v L) e L.first L.second) v L (result_of v e L)) q
+            subst (λ (L : Lent). outcome (paper a) b' op' of' os' ≡ finished (within_ok (text_of v L) e L.first L.second) v L (result_of v e L)) q
             (rw ea (worked_done (within_ok t e f s) T d w judged v (lent b x f s op of os) (sym e_t) z (done_as v p c r.inverse) b' op' of' os' e_a et ey ef es))

@@ -7,17 +7,17 @@ ghost use Prim.Native.Nat.{◌+◌, ◌*◌, ◌≤◌};
 ghost use lib.ListN.{length, take};
 ghost use Rattle.text.specs.Rows.{clamp as clamp_in};
 ghost use Rattle.text.specs.Text.{is_lf, text_limit, renewed};
-ghost use Rattle.edit.specs.declared.Answer.TheVariants.{Done};
+ghost use Rattle.std.specs.Prelude.{Ok};
 ghost use Rattle.edit.specs.declared.Edit.TheVariants.{Replace};
 ghost use Rattle.edit.specs.Edits.{inserted};
 ghost use Rattle.edit.specs.Refusals.{within_ok};
-ghost use Rattle.edit.specs.Call.{paper_answer, Lent, text_of, result_of, outcome, finished};
+ghost use Rattle.edit.specs.Call.{paper, Lent, text_of, result_of, outcome, finished};
 ghost use Rattle.steps.specs.Numbers.{cut_by, size_by};
 ghost use Rattle.steps.specs.Resolves.{Resolves};
 ghost use Rattle.resolve.specs.Admits.{Admitted, cut_first, most_steps};
 ghost use Rattle.work.specs.Answers.{done_as};
 
-use edit::{Answer, Applied, Edit, Plan, Room, Verdict, View};
+use edit::{Applied, Edit, Plan, Refusal, Room, View};
 use plan::{end_after, judge, next_view};
 use recording::{record_cut, record_lists, sum_steps};
 use resolve::{most_steps, resolve};
@@ -69,10 +69,10 @@ fn cursor_in(text: &[u32], cursor: Position, settled: bool) -> Position
 }
 
 // The answer of an accepted edit.
-fn done(view: View, plan: Plan, cursor: Position, inverse: Edit) -> Answer
-    ensures { result ≡ Done (done_as view plan cursor inverse) }
+fn done(view: View, plan: Plan, cursor: Position, inverse: Edit) -> Result<Applied, Refusal>
+    ensures { result ≡ Ok (done_as view plan cursor inverse) }
 {
-    Answer::Done(Applied {
+    Ok(Applied {
         view: next_view(view, plan.used, cursor),
         inverse,
         payload: plan.payload,
@@ -94,18 +94,15 @@ fn work_by(
     outfirst: &mut [u32],
     outsecond: &mut [u32],
     steps: &mut [u32],
-) -> Answer
+) -> Result<Applied, Refusal>
     requires { (view.used ≤ length text.old) × (view.used ≤ text_limit) × Admitted edit payload.now first.now second.now (take view.used text.old) × (5 * most_steps edit (length first.now) ≤ length steps.old) × (room ≡ record { buffer = length text.old; payload = length outpayload.old; first = length outfirst.old; second = length outsecond.old }) × (cut_first edit ≡ edit) }
-    ensures { (l : Lent) → l.buffer ≡ text.old → l.payload ≡ payload.now → l.first ≡ first.now → l.second ≡ second.now → l.out_payload ≡ outpayload.old → l.out_first ≡ outfirst.old → l.out_second ≡ outsecond.old → outcome (paper_answer result) text.new outpayload.new outfirst.new outsecond.new ≡ finished (within_ok (text_of view l) edit l.first l.second) view l (result_of view edit l) }
+    ensures { (l : Lent) → l.buffer ≡ text.old → l.payload ≡ payload.now → l.first ≡ first.now → l.second ≡ second.now → l.out_payload ≡ outpayload.old → l.out_first ≡ outfirst.old → l.out_second ≡ outsecond.old → outcome (paper result) text.new outpayload.new outfirst.new outsecond.new ≡ finished (within_ok (text_of view l) edit l.first l.second) view l (result_of view edit l) }
 {
     let used = view.used;
     let planned = plan_edit(&text[0..used], edit, payload, first, second, steps);
     let found = planned.found;
     let plan = planned.plan;
-    let verdict = judge(found.within, room, plan);
-    if let Verdict::Bad(why) = verdict {
-        return Answer::Refused(why);
-    }
+    judge(found.within, room, plan)?;
     let n = found.steps;
     let size = plan.used;
     record_cut(&text[0..used], steps, n, outpayload);
@@ -129,9 +126,9 @@ fn work_rows(
     outpayload: &mut [u32],
     outfirst: &mut [u32],
     outsecond: &mut [u32],
-) -> Answer
+) -> Result<Applied, Refusal>
     requires { (view.used ≤ length text.old) × (view.used ≤ text_limit) × Admitted edit payload.now first.now second.now (take view.used text.old) × (most ≡ most_steps edit (length first.now)) × (room ≡ record { buffer = length text.old; payload = length outpayload.old; first = length outfirst.old; second = length outsecond.old }) × (cut_first edit ≡ edit) }
-    ensures { (l : Lent) → l.buffer ≡ text.old → l.payload ≡ payload.now → l.first ≡ first.now → l.second ≡ second.now → l.out_payload ≡ outpayload.old → l.out_first ≡ outfirst.old → l.out_second ≡ outsecond.old → outcome (paper_answer result) text.new outpayload.new outfirst.new outsecond.new ≡ finished (within_ok (text_of view l) edit l.first l.second) view l (result_of view edit l) }
+    ensures { (l : Lent) → l.buffer ≡ text.old → l.payload ≡ payload.now → l.first ≡ first.now → l.second ≡ second.now → l.out_payload ≡ outpayload.old → l.out_first ≡ outfirst.old → l.out_second ≡ outsecond.old → outcome (paper result) text.new outpayload.new outfirst.new outsecond.new ≡ finished (within_ok (text_of view l) edit l.first l.second) view l (result_of view edit l) }
 {
     if most <= 32 {
         let mut steps = [0; 160];
@@ -158,9 +155,9 @@ pub fn work(
     outpayload: &mut [u32],
     outfirst: &mut [u32],
     outsecond: &mut [u32],
-) -> Answer
+) -> Result<Applied, Refusal>
     requires { (view.used ≤ length text.old) × (view.used ≤ text_limit) × Admitted edit payload.now first.now second.now (take view.used text.old) × (room ≡ record { buffer = length text.old; payload = length outpayload.old; first = length outfirst.old; second = length outsecond.old }) × (cut_first edit ≡ edit) }
-    ensures { (l : Lent) → l.buffer ≡ text.old → l.payload ≡ payload.now → l.first ≡ first.now → l.second ≡ second.now → l.out_payload ≡ outpayload.old → l.out_first ≡ outfirst.old → l.out_second ≡ outsecond.old → outcome (paper_answer result) text.new outpayload.new outfirst.new outsecond.new ≡ finished (within_ok (text_of view l) edit l.first l.second) view l (result_of view edit l) }
+    ensures { (l : Lent) → l.buffer ≡ text.old → l.payload ≡ payload.now → l.first ≡ first.now → l.second ≡ second.now → l.out_payload ≡ outpayload.old → l.out_first ≡ outfirst.old → l.out_second ≡ outsecond.old → outcome (paper result) text.new outpayload.new outfirst.new outsecond.new ≡ finished (within_ok (text_of view l) edit l.first l.second) view l (result_of view edit l) }
 {
     let most = most_steps(edit, first.len());
     if most <= 1 {
@@ -208,9 +205,9 @@ pub fn replace(
     end: Position,
     payload: &[u32],
     outpayload: &mut [u32],
-) -> Answer
+) -> Result<Applied, Refusal>
     requires { (view.used ≤ length text.old) × (view.used ≤ text_limit) × (length payload.now ≤ text_limit) × (room.buffer ≡ length text.old) × (room.payload ≡ length outpayload.old) }
-    ensures { (l : Lent) → l.buffer ≡ text.old → l.payload ≡ payload.now → l.out_payload ≡ outpayload.old → outcome (paper_answer result) text.new outpayload.new l.out_first l.out_second ≡ finished true view l (result_of view (Replace start end) l) }
+    ensures { (l : Lent) → l.buffer ≡ text.old → l.payload ≡ payload.now → l.out_payload ≡ outpayload.old → outcome (paper result) text.new outpayload.new l.out_first l.out_second ≡ finished true view l (result_of view (Replace start end) l) }
 {
     let used = view.used;
     let mut steps = [0; 5];
@@ -224,10 +221,7 @@ pub fn replace(
         first: 0,
         second: 0,
     };
-    let verdict = judge(true, room, plan);
-    if let Verdict::Bad(why) = verdict {
-        return Answer::Refused(why);
-    }
+    judge(true, room, plan)?;
     record_cut(&text[0..used], &steps, n, outpayload);
     commit(text, used, &steps, n, cut.made, payload, left);
     let put = insert_at(text, left, start.min(end), payload);

@@ -5,12 +5,8 @@ use Rattle.utf8.specs.Calls.{Outcome, outcome, stored}
 use Rattle.edit.specs.Call.{number_of, offset_of}
 use Rattle.frame.specs.Format.{Frame}
 use Rattle.frame.specs.Writes.{line_of}
-use Rattle.writer.specs.declared.Written.{Written}
-use Rattle.writer.specs.declared.Written.TheVariants.{Digits, Refused}
-
-abbrev pub paper_written : Written → Paper ℕ
-paper_written (Digits n) = done n
-paper_written (Refused r) = refused (number_of r) (offset_of r)
+use Rattle.std.specs.Prelude.{Result, Ok, Err}
+use Rattle.edit.specs.declared.Refusal.{Refusal}
 
 -- the line to the front of the slice, or 8: "encoded output too long for its slice"
 unfoldable pub line_into : Paper (List ℕ) → List ℕ → Outcome

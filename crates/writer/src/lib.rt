@@ -6,51 +6,37 @@ ghost use Rattle.utf8.specs.Calls.{outcome, stored};
 ghost use Rattle.hexline.specs.Digits.{hexed};
 ghost use Rattle.edit.specs.Edits.{whole};
 ghost use Rattle.frame.specs.Format.{text, mark, edit as edit_frame};
-ghost use Rattle.writer.specs.Calls.{paper_written, written_into};
+ghost use Rattle.writer.specs.Calls.{written_into};
+ghost use Rattle.edit.specs.Call.{paper};
 
 use edit::{Edit, Refusal};
 use encoding::encode;
 use frame::BYTE_LIMIT;
 use frame_bytes::{put_edit, put_position};
 use frame_size::{byte_count, has_bytes, octets_of};
-use hexline::{Hexed, hex};
+use hexline::hex;
 use select::Sel;
-use utf8::{ByteOffset, Encoded, OctetCount};
+use utf8::ByteOffset;
 
-// How many digits were written to the front of the slice lent for them, or the refusal.
-#[derive(Clone, Copy)]
-pub enum Written {
-    Digits(usize),
-    Refused(Refusal),
-}
-
-// The digits of a whole frame that a line holds.
-fn write_bytes(bytes: &[u8], out: &mut [u8]) -> Written
+// The digits of a whole frame that a line holds, to the front of `out`, and how many they are.
+fn write_bytes(bytes: &[u8], out: &mut [u8]) -> Result<usize, Refusal>
     requires { length bytes.now ≤ 18_432 }
-    ensures { outcome (paper_written result) out.new ≡ stored (hexed bytes.now) out.old }
+    ensures { outcome (paper result) out.new ≡ stored (hexed bytes.now) out.old }
 {
-    let digits = hex(bytes, out);
-    match digits {
-        Hexed::Digits(count) => Written::Digits(count),
-        Hexed::NoRoom => Written::Refused(Refusal::NoRoom),
-    }
+    Ok(hex(bytes, out)?)
 }
 
-pub fn write_text(chars: &[u32], out: &mut [u8]) -> Written
-    ensures { outcome (paper_written result) out.new ≡ written_into (text chars.now) out.old }
+pub fn write_text(chars: &[u32], out: &mut [u8]) -> Result<usize, Refusal>
+    ensures { outcome (paper result) out.new ≡ written_into (text chars.now) out.old }
 {
     let mut bytes = [0u8; BYTE_LIMIT];
     bytes[0] = 0x01;
-    let encoded = encode(chars, &mut bytes[1..]);
-    match encoded {
-        Encoded::Octets(octets) => write_bytes(&bytes[0..octets + 1], out),
-        Encoded::BadText => Written::Refused(Refusal::BadText),
-        Encoded::NoRoom => Written::Refused(Refusal::NoRoom),
-    }
+    let octets = encode(chars, &mut bytes[1..])?;
+    write_bytes(&bytes[0..octets + 1], out)
 }
 
-pub fn write_mark(sel: Sel, out: &mut [u8]) -> Written
-    ensures { outcome (paper_written result) out.new ≡ written_into (mark sel) out.old }
+pub fn write_mark(sel: Sel, out: &mut [u8]) -> Result<usize, Refusal>
+    ensures { outcome (paper result) out.new ≡ written_into (mark sel) out.old }
 {
     let anchor = sel.anchor;
     let head = sel.head;
@@ -68,19 +54,16 @@ pub fn write_edit(
     first: &[u32],
     second: &[u32],
     out: &mut [u8],
-) -> Written
-    ensures { outcome (paper_written result) out.new ≡ written_into (edit_frame (whole edit payload.now first.now second.now)) out.old }
+) -> Result<usize, Refusal>
+    ensures { outcome (paper result) out.new ≡ written_into (edit_frame (whole edit payload.now first.now second.now)) out.old }
 {
     if !has_bytes(edit, payload, first, second) {
-        return Written::Refused(Refusal::BadFrame);
+        return Err(Refusal::BadFrame);
     }
-    let counted = octets_of(edit, payload);
-    let OctetCount::Octets(octets) = counted else {
-        return Written::Refused(Refusal::BadText);
-    };
+    let octets = octets_of(edit, payload)?;
     let count = byte_count(edit, first.len(), octets);
     if BYTE_LIMIT < count {
-        return Written::Refused(Refusal::NoRoom);
+        return Err(Refusal::NoRoom);
     }
     let mut bytes = [0u8; BYTE_LIMIT];
     put_edit(&mut bytes, edit, payload, first, second);

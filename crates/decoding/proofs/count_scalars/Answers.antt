@@ -1,12 +1,12 @@
-use mathlib.Core.Path.{refl, sym, ap, ◌∙◌}
+use mathlib.Core.Path.{refl, sym, ◌∙◌}
 use Prim.Native.Nat.{◌+◌}
 use native.Mathlib.Omega.{arith}
 use borrow.Author.Tests.{not-true, not-false}
+use Rattle.std.proofs.lemmas.Result.{err_from_is_err_and}
 use Rattle.decoding.proofs.Counts.{count_none, count_again, count_bad, count_all}
 use Rattle.decoding.proofs.Runs.{count_run}
-use Rattle.sequences.proofs.Steps.{ascii, three_step, three_lost}
+use Rattle.sequences.proofs.Steps.{ascii, three_step, three_lost, step-place}
 use Rattle.utf8.proofs.Lead.{no_ones}
-use Rattle.utf8.specs.Answers.{paper_step}
 use Rattle.decoding.proofs.count_scalars.Goals as goal
 
 pub loop-at-init : goal.loop-at-init
@@ -55,15 +55,16 @@ loop-at-preserved-then-ones-eq3 c = let l = c.loop-at in let s = c.args.bytes.no
     let t = count_again s l.at.0 l.count l.invariant.2 _ (l.at.0 + 3) (three_step s l.at.0 _ c.loop-at-test.true (c.shared_slice_known-in-loop-at-1.given l.at.0).fits c.leading_ones-ones.ensures c.if-ones-eq3.true (sym c.starts_three.ensures ∙ not-false _ c.if-not-starts_three.false-raw)) l.invariant.0 l.invariant.1 in
     (t.0, t.1, t.3)
 
-pub returns-in_default : goal.returns-in_default
-returns-in_default c = let l = c.loop-at in count_bad _ l.at.0 l.count l.invariant.2 c.in_default.field-0.0 (ap paper_step (sym c.in_default.is) ∙ c.read_scalar.ensures) c.loop-at-test.true
+pub returns-in_err-at : goal.returns-in_err-at
+returns-in_err-at c = let l = c.loop-at in let p = err_from_is_err_and c.from_residual.result c.from_residual.ensures.1 in
+    rw (p.1, p.2, step-place c.args.bytes.now l.at.0 _ c.in_err-at.ensures) (count_bad _ l.at.0 l.count l.invariant.2 _ c.in_err-at.ensures c.loop-at-test.true)
 
 pub loop-at-smaller : goal.loop-at-smaller
-loop-at-smaller c = let l = c.loop-at in let t = count_again _ l.at.0 l.count l.invariant.2 c.in-Scalar.value c.in-Scalar.next.0 (ap paper_step (sym c.in-Scalar.is) ∙ c.read_scalar.ensures) l.invariant.0 l.invariant.1 in
+loop-at-smaller c = let l = c.loop-at in let t = count_again _ l.at.0 l.count l.invariant.2 _ _ c.in_ok-at.ensures l.invariant.0 l.invariant.1 in
     omega arith
 
 pub loop-at-preserved : goal.loop-at-preserved
-loop-at-preserved c = let l = c.loop-at in let t = count_again _ l.at.0 l.count l.invariant.2 c.in-Scalar.value c.in-Scalar.next.0 (ap paper_step (sym c.in-Scalar.is) ∙ c.read_scalar.ensures) l.invariant.0 l.invariant.1 in
+loop-at-preserved c = let l = c.loop-at in let t = count_again _ l.at.0 l.count l.invariant.2 _ _ c.in_ok-at.ensures l.invariant.0 l.invariant.1 in
     (t.0, t.1, t.3)
 
 pub returns : goal.returns

@@ -1,8 +1,9 @@
-use mathlib.Core.Path.{refl}
+use mathlib.Core.Path.{refl, sym, ap, ◌∙◌}
 use native.Mathlib.Omega.{arith}
 use lib.ListN.{get_or, length-set}
-use Rattle.encoding.proofs.Fills.{one-room, one_again, three_room, three_again, fill_room, fill_again, fill_all}
-use Rattle.encoding.proofs.Sequences.{between}
+use Rattle.encoding.proofs.Fills.{one-room, one_again, three_room, three_again, fill_room, fill_again, fill_all, next_scalar}
+use Rattle.encoding.proofs.Sequences.{between, scalar_written}
+use Rattle.utf8.specs.Answers.{paper_sequence}
 use Rattle.encoding.proofs.fill_octets.Goals as goal
 
 pub loop-i-init : goal.loop-i-init
@@ -69,15 +70,21 @@ loop-i-preserved-then-value c = let l = c.loop-i in let a = c.args in let s = a.
     let t = three_again s a.out.now l.out l.i l.at.0 c.loop-i-test.true l.invariant.3 l.invariant.4 c.requires.1 w.0 w.1 _ _ _ c.lead_of_three.ensures c.tail.ensures c.tail-then-value.ensures l.invariant.5 in
     (omega arith, simp length-set l.invariant.1, t.0, t.1, t.2, t.3)
 
+pub unwrap-requires : goal.unwrap-requires
+unwrap-requires c = let l = c.loop-i in let s = c.args.scalars.now in
+    scalar_written c.sequence_of.result (get_or s l.i 0) c.sequence_of.ensures (next_scalar s l.i c.loop-i-test.true l.invariant.3)
+
 pub put-at-requires : goal.put-at-requires
 put-at-requires c = let l = c.loop-i in let a = c.args in let s = a.scalars.now in
-    let k = fill_room s a.out.now l.out l.i l.at.0 _ c.loop-i-test.true c.sequence_of.ensures l.invariant.3 l.invariant.4 c.requires.1 in
+    let e = ap paper_sequence (sym c.unwrap.ensures) ∙ c.sequence_of.ensures in
+    let k = fill_room s a.out.now l.out l.i l.at.0 _ c.loop-i-test.true e l.invariant.3 l.invariant.4 c.requires.1 in
     omega arith
 
 pub loop-i-preserved : goal.loop-i-preserved
 loop-i-preserved c = let l = c.loop-i in let a = c.args in let s = a.scalars.now in
-    let t = fill_again s a.out.now l.out l.i l.at.0 _ c.loop-i-test.true c.sequence_of.ensures l.invariant.3 l.invariant.4 c.requires.1 l.invariant.5 in
-    let k = fill_room s a.out.now l.out l.i l.at.0 _ c.loop-i-test.true c.sequence_of.ensures l.invariant.3 l.invariant.4 c.requires.1 in
+    let e = ap paper_sequence (sym c.unwrap.ensures) ∙ c.sequence_of.ensures in
+    let t = fill_again s a.out.now l.out l.i l.at.0 _ c.loop-i-test.true e l.invariant.3 l.invariant.4 c.requires.1 l.invariant.5 in
+    let k = fill_room s a.out.now l.out l.i l.at.0 _ c.loop-i-test.true e l.invariant.3 l.invariant.4 c.requires.1 in
     let p = c.put-at.ensures in
     (omega arith, omega arith, rw p.1 k, t.0, rw p.1 t.1, rw (p.0, p.1) t.2)
 

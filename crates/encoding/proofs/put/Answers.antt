@@ -1,5 +1,4 @@
 use mathlib.Core.Path.{refl}
-use native.Mathlib.Nat.{add-zero}
 use native.Mathlib.Numerals.{add-one, add-two, add-three}
 use native.Mathlib.Omega.{arith}
 use lib.ListN.{length-set}
@@ -88,6 +87,3 @@ shape_of-out-in-Four c = simp length-set
 
 pub returns-in-Four : goal.returns-in-Four
 returns-in-Four c = rw (c.in-Four.is, add-one, add-two, add-three) (refl, refl)
-
-pub returns-in-BadText : goal.returns-in-BadText
-returns-in-BadText c = rw (c.in-BadText.is, add-zero) (refl, refl)

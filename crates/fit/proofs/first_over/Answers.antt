@@ -4,7 +4,7 @@ use lib.ListN.{drop, get_or}
 use Rattle.promise.specs.Paper.{Paper, done}
 use Rattle.cells.specs.Cells.{cell_after}
 use Rattle.fit.proofs.Boxes.{walk, walk_rows, walk_end, walk_lf, walk_out, walk_on}
-use Rattle.fit.specs.Calls.{Fit, paper_box_fit}
+use Rattle.fit.specs.Calls.{fit_of}
 use native.Mathlib.Omega.{arith}
 use borrow.Author.Rules.{rules}
 use Rattle.fit.proofs.first_over.Goals.{else-cols-test, then-cols-test+then-text-i-eq-LF}
@@ -49,9 +49,9 @@ rows-preserved c = let k = c.cols in let r = c.rows in let a = c.args in
 
 pub returns-after-rows : goal.returns-after-rows
 returns-after-rows c = let r = c.rows in let a = c.args in
-    ap paper_box_fit r.invariant.2 ∙ ap {B = Paper Fit} done (sym (walk_end a.cells a.tab r.row 0 0 a.text.now r.i (omega arith)) ∙ r.invariant.3 ∙ walk_rows a.cells a.tab a.text.now)
+    ap fit_of r.invariant.2 ∙ sym (walk_end a.cells a.tab r.row 0 0 a.text.now r.i (omega arith)) ∙ r.invariant.3 ∙ walk_rows a.cells a.tab a.text.now
 
 pub returns-then-cells-end : goal.returns-then-cells-end
 returns-then-cells-end c = let k = c.cols in let r = c.rows in let a = c.args in
     let n = c.cell_after-next.ensures.0 in
-    ap {B = Paper Fit} done (sym (walk_out a.cells a.tab r.row k.cell k.col a.text.now k.i (omega arith) c.if-text-i-eq-LF.false (rw n at c.if-cells-end.true)) ∙ k.invariant.6 ∙ walk_rows a.cells a.tab a.text.now)
+    (sym (walk_out a.cells a.tab r.row k.cell k.col a.text.now k.i (omega arith) c.if-text-i-eq-LF.false (rw n at c.if-cells-end.true)) ∙ k.invariant.6 ∙ walk_rows a.cells a.tab a.text.now)

@@ -2,6 +2,7 @@ use mathlib.Core.Path.{◌∙◌, ap}
 use mathlib.Core.Bool.{true}
 use native.Mathlib.Omega.{arith}
 use lib.ListN.{take}
+use Rattle.std.proofs.lemmas.Result.{err_from_is_err_and}
 use Rattle.text.specs.Text.{is_lf}
 use Rattle.edit.specs.Call.{lent}
 use Rattle.edit.proofs.Workers.{worked_fits, worked_refused, worked_leaves}
@@ -16,16 +17,16 @@ overflow_sub-gone c = let a = c.args in let w = line-within a.view a.text.now a.
 pub overflow_sub-left : goal.overflow_sub-left
 overflow_sub-left c = let a = c.args in let w = line-within a.view a.text.now a.start a.end c.requires.0 _ c.line_cut-rows.ensures in omega (arith, w.0, w.1)
 
-pub returns-in-Bad : goal.returns-in-Bad
-returns-in-Bad c = let a = c.args in
-    λ x f y of os same. worked_refused true a.room (lines_deleted is_lf (take a.view.used a.text.now) a.start a.end) _ (c.judge_flat-verdict.ensures (lines_deleted is_lf (take a.view.used a.text.now) a.start a.end) (line-plan a.view a.text.now a.start a.end c.requires.0 _ c.line_cut-rows.ensures)) a.view (lent a.text.now x f y a.out.now of os) same _ c.in-Bad.is
+pub returns-in_err-judge_flat : goal.returns-in_err-judge_flat
+returns-in_err-judge_flat c = let a = c.args in
+    λ x f y of os same. let p = err_from_is_err_and c.from_residual.result c.from_residual.ensures.1 in rw (p.1, p.2) (worked_refused true a.room (lines_deleted is_lf (take a.view.used a.text.now) a.start a.end) _ (c.judge_flat.ensures (lines_deleted is_lf (take a.view.used a.text.now) a.start a.end) (line-plan a.view a.text.now a.start a.end c.requires.0 _ c.line_cut-rows.ensures)) a.view (lent a.text.now x f y a.out.now of os) same _ c.in_err-judge_flat.was)
 
 pub close_gap-requires : goal.close_gap-requires
 close_gap-requires c = let a = c.args in
-    let w = line-within a.view a.text.now a.start a.end c.requires.0 _ c.line_cut-rows.ensures in let q = line-plan a.view a.text.now a.start a.end c.requires.0 _ c.line_cut-rows.ensures in let f = worked_fits true a.room (lines_deleted is_lf (take a.view.used a.text.now) a.start a.end) _ (c.judge_flat-verdict.ensures (lines_deleted is_lf (take a.view.used a.text.now) a.start a.end) q) c.in_default.is in
+    let w = line-within a.view a.text.now a.start a.end c.requires.0 _ c.line_cut-rows.ensures in let q = line-plan a.view a.text.now a.start a.end c.requires.0 _ c.line_cut-rows.ensures in let f = worked_fits true a.room (lines_deleted is_lf (take a.view.used a.text.now) a.start a.end) _ (c.judge_flat.ensures (lines_deleted is_lf (take a.view.used a.text.now) a.start a.end) q) c.in_ok-judge_flat.was in
     (w.0, w.1, c.requires.0, omega (arith, f.payload, ap (λ (z : Plan). z.payload) q, c.requires.3))
 
 pub returns : goal.returns
 returns c = let a = c.args in
     λ x f y of os same. line-done a.view a.text.now a.start a.end c.requires.0 _ c.line_cut-rows.ensures _ _ _ a.out.now _ _ c.close_gap.ensures c.last_row.ensures c.min-row.ensures c.next_view.ensures x f y of os
-    ∙ worked_leaves true a.room (lines_deleted is_lf (take a.view.used a.text.now) a.start a.end) _ (c.judge_flat-verdict.ensures (lines_deleted is_lf (take a.view.used a.text.now) a.start a.end) (line-plan a.view a.text.now a.start a.end c.requires.0 _ c.line_cut-rows.ensures)) a.view (lent a.text.now x f y a.out.now of os) same c.in_default.is
+    ∙ worked_leaves true a.room (lines_deleted is_lf (take a.view.used a.text.now) a.start a.end) _ (c.judge_flat.ensures (lines_deleted is_lf (take a.view.used a.text.now) a.start a.end) (line-plan a.view a.text.now a.start a.end c.requires.0 _ c.line_cut-rows.ensures)) a.view (lent a.text.now x f y a.out.now of os) same c.in_ok-judge_flat.was

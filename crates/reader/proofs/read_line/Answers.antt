@@ -6,14 +6,14 @@ use Rattle.reader.proofs.Frames.{read_by}
 use Rattle.reader.proofs.read_line.Goals as goal
 
 pub slice_bounds-read_bytes-end : goal.slice_bounds-read_bytes-end
-slice_bounds-read_bytes-end c = let a = c.args in let u = c.unhex-unhexed in count_within a.line.now _ _ u.result u.ensures c.in-Octets.count c.in-Octets.is
+slice_bounds-read_bytes-end c = let a = c.args in let u = c.unhex-unhexed in count_within a.line.now _ _ u.result u.ensures c.in-Ok.count c.in-Ok.is
 
-pub returns-in-Octets : goal.returns-in-Octets
-returns-in-Octets c = let a = c.args in let u = c.unhex-unhexed in read_by _ _ _ a.payload.now a.first.now a.second.now c.read_bytes.ensures (ap read_form (line_read a.line.now _ _ u.result u.ensures c.in-Octets.count c.in-Octets.is))
+pub returns-in-Ok : goal.returns-in-Ok
+returns-in-Ok c = let a = c.args in let u = c.unhex-unhexed in read_by _ _ _ a.payload.now a.first.now a.second.now c.read_bytes.ensures (ap read_form (line_read a.line.now _ _ u.result u.ensures c.in-Ok.count c.in-Ok.is))
 
-pub returns-in-BadFrame : goal.returns-in-BadFrame
+pub returns-in-Err-BadFrame : goal.returns-in-Err-BadFrame
 unfolding read_into read_form
-returns-in-BadFrame c = let a = c.args in let u = c.unhex-unhexed in read_by _ _ _ a.payload.now a.first.now a.second.now refl (ap read_form (line-bad a.line.now _ _ u.result u.ensures c.in-BadFrame.is))
+returns-in-Err-BadFrame c = let a = c.args in let u = c.unhex-unhexed in read_by _ _ _ a.payload.now a.first.now a.second.now refl (ap read_form (line-bad a.line.now _ _ u.result u.ensures c.in-Err-BadFrame.is))
 
-pub returns-in-NoRoom : goal.returns-in-NoRoom
-returns-in-NoRoom c = let a = c.args in let u = c.unhex-unhexed in absurd (line-roomy a.line.now _ _ u.result u.ensures c.requires c.in-NoRoom.is)
+pub returns-in-Err-NoRoom : goal.returns-in-Err-NoRoom
+returns-in-Err-NoRoom c = let a = c.args in let u = c.unhex-unhexed in absurd (line-roomy a.line.now _ _ u.result u.ensures c.requires c.in-Err-NoRoom.is)

@@ -35,14 +35,14 @@ slice_bounds-count_scalars-end c = omega (arith, within (goal.at.slice_bounds-co
 pub overflow_add-result : goal.overflow_add-result
 overflow_add-result c = let w = within (goal.at.overflow_add-result c).After-number_at-length in omega arith
 
-pub overflow_add-result-in-BadUtf8 : goal.overflow_add-result-in-BadUtf8
-overflow_add-result-in-BadUtf8 c = let l = c.loop-at in let t = tally_bad _ l.at l.chunks l.chars c.number_at-length.result _ c.number_at-length.ensures c.loop-at-test.true l.invariant.3 l.invariant.4 c.in-BadUtf8.bad.0 (rw c.in-BadUtf8.is at c.count_scalars-counted.ensures) in let w = within (goal.at.overflow_add-result-in-BadUtf8 c).After-number_at-length in omega arith
+pub overflow_add-result-in-Err : goal.overflow_add-result-in-Err
+overflow_add-result-in-Err c = let l = c.loop-at in let t = tally_bad _ l.at l.chunks l.chars c.number_at-length.result _ c.number_at-length.ensures c.loop-at-test.true l.invariant.3 l.invariant.4 c.in-Err.bad.0.0 (rw c.in-Err.is at c.count_scalars-counted.ensures) in let w = within (goal.at.overflow_add-result-in-Err c).After-number_at-length in omega arith
 
-pub returns-in-BadUtf8 : goal.returns-in-BadUtf8
-returns-in-BadUtf8 c = let l = c.loop-at in let t = tally_bad _ l.at l.chunks l.chars c.number_at-length.result _ c.number_at-length.ensures c.loop-at-test.true l.invariant.3 l.invariant.4 c.in-BadUtf8.bad.0 (rw c.in-BadUtf8.is at c.count_scalars-counted.ensures) in t.1
+pub returns-in-Err : goal.returns-in-Err
+returns-in-Err c = let l = c.loop-at in let t = tally_bad _ l.at l.chunks l.chars c.number_at-length.result _ c.number_at-length.ensures c.loop-at-test.true l.invariant.3 l.invariant.4 c.in-Err.bad.0.0 (rw c.in-Err.is at c.count_scalars-counted.ensures) in t.1
 
 pub overflow_add-chars : goal.overflow_add-chars
-overflow_add-chars c = let l = c.loop-at in let t = tally_again _ l.at l.chunks l.chars c.number_at-length.result _ c.number_at-length.ensures c.loop-at-test.true l.invariant.3 l.invariant.4 c.in-Scalars.count (rw c.in-Scalars.is at c.count_scalars-counted.ensures) in let w = within (goal.at.overflow_add-chars c).After-number_at-length in omega arith
+overflow_add-chars c = let l = c.loop-at in let t = tally_again _ l.at l.chunks l.chars c.number_at-length.result _ c.number_at-length.ensures c.loop-at-test.true l.invariant.3 l.invariant.4 c.in-Ok.count (rw c.in-Ok.is at c.count_scalars-counted.ensures) in let w = within (goal.at.overflow_add-chars c).After-number_at-length in omega arith
 
 pub overflow_add-chunks : goal.overflow_add-chunks
 overflow_add-chunks c = let w = within (goal.at.overflow_add-chunks c).After-number_at-length in omega arith
@@ -51,7 +51,7 @@ pub loop-at-smaller : goal.loop-at-smaller
 loop-at-smaller c = let w = within (goal.at.loop-at-smaller c).After-number_at-length in omega arith
 
 pub loop-at-preserved : goal.loop-at-preserved
-loop-at-preserved c = let l = c.loop-at in let t = tally_again _ l.at l.chunks l.chars c.number_at-length.result _ c.number_at-length.ensures c.loop-at-test.true l.invariant.3 l.invariant.4 c.in-Scalars.count (rw c.in-Scalars.is at c.count_scalars-counted.ensures) in let w = within (goal.at.loop-at-preserved c).After-number_at-length in
+loop-at-preserved c = let l = c.loop-at in let t = tally_again _ l.at l.chunks l.chars c.number_at-length.result _ c.number_at-length.ensures c.loop-at-test.true l.invariant.3 l.invariant.4 c.in-Ok.count (rw c.in-Ok.is at c.count_scalars-counted.ensures) in let w = within (goal.at.loop-at-preserved c).After-number_at-length in
     (w, omega arith, omega arith, sound_next _ l.at c.number_at-length.result c.number_at-length.ensures c.loop-at-test.true l.invariant.3, t.1)
 
 pub returns : goal.returns

@@ -1,14 +1,14 @@
 use mathlib.Core.List.{[], ◌∷◌}
 use lib.ListN.{drop}
+use Rattle.std.proofs.lemmas.Result.{err_from_is_err_and}
+use Rattle.promise.specs.Paper.{done}
 use Rattle.frame.specs.Reads.{contents}
-use Rattle.reader.proofs.Decodes.{text-read}
+use Rattle.reader.proofs.Decodes.{text-read, text_refused}
 use Rattle.reader.proofs.strings.read_text.Goals as goal
 
-pub returns-in-Scalars : goal.returns-in-Scalars
-returns-in-Scalars c = let a = c.args in λ f s. text-read (contents 1 (drop 1 a.bytes.now ∷ [])) _ a.payload.now _ f s (rw c.in-Scalars.is at c.decode_from-decoded.ensures)
+pub returns-in_err-count : goal.returns-in_err-count
+returns-in_err-count c = let a = c.args in λ f s. let p = err_from_is_err_and c.from_residual.result c.from_residual.ensures.1 in
+    rw (p.1, p.2) (text_refused _ (contents 1 (drop 1 a.bytes.now ∷ [])) a.payload.now _ f s c.in_err-count.ensures)
 
-pub returns-in-BadUtf8 : goal.returns-in-BadUtf8
-returns-in-BadUtf8 c = let a = c.args in λ f s. text-read (contents 1 (drop 1 a.bytes.now ∷ [])) _ a.payload.now _ f s (rw c.in-BadUtf8.is at c.decode_from-decoded.ensures)
-
-pub returns-in-NoRoom : goal.returns-in-NoRoom
-returns-in-NoRoom c = let a = c.args in λ f s. text-read (contents 1 (drop 1 a.bytes.now ∷ [])) _ a.payload.now _ f s (rw c.in-NoRoom.is at c.decode_from-decoded.ensures)
+pub returns : goal.returns
+returns c = let a = c.args in λ f s. text-read (contents 1 (drop 1 a.bytes.now ∷ [])) (done c.in_ok-count.count) a.payload.now _ f s c.in_ok-count.ensures
