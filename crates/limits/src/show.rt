@@ -71,7 +71,7 @@ pub(crate) struct Done<'a> {
 
 impl Done<'_> {
     // The text and the record, each where it is short.
-    fn write_items<W: fmt::Write>(&self, f: &mut fmt::Formatter<W>) -> fmt::Result {
+    fn write_short<W: fmt::Write>(&self, f: &mut fmt::Formatter<W>) -> fmt::Result {
         let Lent {
             text,
             payload,
@@ -108,7 +108,7 @@ impl fmt::Display for Done<'_> {
             f,
             "done{view}, inverse {kind}, record {payload} {first} {second}"
         )?;
-        self.write_items(f)?;
+        self.write_short(f)?;
         let numbers = Numbers(inverse);
         let sum = self.lent.checksum();
         write!(f, " numbers {numbers} sum {sum}")

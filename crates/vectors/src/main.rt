@@ -14,18 +14,13 @@ mod vector;
 use lines::read_text;
 use std::{fmt, io};
 
-#[derive(Clone, Copy)]
+#[derive(Clone, Copy, Default)]
 struct Tally {
     passed: usize,
     count: usize,
 }
 
 impl Tally {
-    const NONE: Tally = Tally {
-        passed: 0,
-        count: 0,
-    };
-
     fn add(&mut self, passes: bool) {
         self.passed = self.passed.saturating_add(usize::from(passes));
         self.count = self.count.saturating_add(1);
@@ -50,15 +45,15 @@ fn print_group(out: &impl Print, title: Option<&[u8]>, tally: Tally) -> io::Resu
 
 fn try_groups(out: &impl Print, text: &[u8]) -> io::Result<()> {
     let mut title = None;
-    let mut group = Tally::NONE;
-    let mut total = Tally::NONE;
+    let mut group = Tally::default();
+    let mut total = Tally::default();
     for line in text.split(|x| *x == b'\n') {
         match line {
             [] | [b'#', ..] => {}
             [b':', ..] => {
                 print_group(out, title, group)?;
                 title = Some(line.get(2..).unwrap_or_default());
-                group = Tally::NONE;
+                group = Tally::default();
             }
             _ => {
                 let passes = vector::holds(line);
