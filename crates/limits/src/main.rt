@@ -17,71 +17,40 @@
 // inverse's own numbers and a checksum of all that was lent to be written.
 #![tactic(auto)]
 
-mod lent;
+mod calls;
 mod show;
 mod trial;
 
-use lines::{is_passed_over, part_at, read_numbers};
-use trial::{NUMBERS, try_cursor, try_edit};
+use crate::calls::run;
+use crate::trial::Trial;
+use lines::{is_passed_over, read_text};
+use std::io;
 
-const STDIN_FILENO: i32 = 0;
-
-const STDOUT_FILENO: i32 = 1;
-
-fn is_label(line: &[u8]) -> bool {
-    if line.len() == 0 {
-        return false;
+fn try_line(out: &impl Print, label: &[u8], line: &[u8]) -> io::Result<()> {
+    out.write_all(label)?;
+    print!(out; ": ")?;
+    match Trial::read(line) {
+        Some(trial) => run(out, trial),
+        None => println!(out; "malformed"),
     }
-    line[0] == b':'
 }
 
-fn print_label(label: &[u8]) {
-    if 2 <= label.len() {
-        io::write_all(STDOUT_FILENO, &label[2..]);
-    }
-    io::write_all(STDOUT_FILENO, b": ");
-}
-
-fn try_line(label: &[u8], line: &[u8]) {
-    if is_passed_over(line) {
-        return;
-    }
-    print_label(label);
-    let mut numbers = [0u32; NUMBERS];
-    let read = read_numbers(line, &mut numbers);
-    if read.well_formed & (numbers[0] <= 10) {
-        try_edit(numbers);
-    } else if read.well_formed & (numbers[0] == 11) {
-        try_cursor(numbers);
-    } else {
-        io::write_all(STDOUT_FILENO, b"malformed");
-    }
-    io::write_all(STDOUT_FILENO, b"\n");
-}
-
-fn try_lines(text: &[u8]) {
-    let mut label = 0;
-    let mut label_end = 0;
-    let mut start = 0;
-    while start < text.len() {
-        let line = part_at(text, start, b'\n');
-        let end = line.end;
-        if is_label(&text[start..end]) {
-            label = start;
-            label_end = end;
-        } else {
-            try_line(&text[label..label_end], &text[start..end]);
+fn try_lines(out: &impl Print, text: &[u8]) -> io::Result<()> {
+    let mut label: &[u8] = &[];
+    for line in text.split(|x| *x == b'\n') {
+        if line.starts_with(b":") {
+            label = line.get(2..).unwrap_or_default();
+        } else if !is_passed_over(line) {
+            try_line(out, label, line)?;
         }
-        start = line.next;
     }
+    Ok(())
 }
 
-fn main() {
-    let mut input = io::large_buffer();
-    let length = io::read_full(STDIN_FILENO, &mut input);
-    if length == 65536 {
-        io::write_all(STDOUT_FILENO, b"the input is too long\n");
-        return;
+fn main(rt: HostRuntime) -> io::Result<()> {
+    let mut room = [0; 65_536];
+    match read_text(rt.stdin(), &mut room)? {
+        Some(text) => try_lines(&rt, text),
+        None => println!(rt; "the input is too long"),
     }
-    try_lines(&input[0..length]);
 }

@@ -1,183 +1,137 @@
-// One call of `apply_edit_in` or `set_cursor` on arrays that a trial's numbers fill.
-ghost use Rattle.std.specs.Prelude.{◌≤◌, ◌<◌, ◌≡◌, length};
+// A trial by its numbers.
+use edit::{Edit, View};
+use lines::read_numbers;
+use text::{LF, Position};
+use trials::{Kind, position};
 
-use crate::lent::apply_lent;
-use crate::show::{print_cursor, print_done, print_refused};
-use edit::{Answer, Edit, View};
-use lines::size;
-use text::LF;
-use trials::{edit_of, position};
-use view::set_cursor;
-
-pub(crate) const NUMBERS: usize = 22;
+const NUMBERS: usize = 22;
 
 // The lengths of the arrays for characters and for list items: past every limit, so that one too many can be lent.
-pub(crate) const ROOM: usize = 16400;
+pub(crate) const ROOM: usize = 16_400;
 
 pub(crate) const ITEMS: usize = 300;
 
-// No scalar, and past the limit of numbers: what stands where nothing is lent, and in the slices that are lent for the inverse.
-const FILL: u32 = 0xA5A5A5A5;
-
-// A prime below 2^32.
-const MODULUS: u64 = 4294967291;
-
-fn wide(x: u32) -> u64
-    ensures { result < 4294967296 }
-{
-    x as u64
+// What stands in so many items: each period-th one is `other`, none if the period is 0.
+#[derive(Clone, Copy)]
+pub(crate) struct Filling {
+    pub(crate) length: usize,
+    value: u32,
+    period: usize,
+    other: u32,
 }
 
-fn upto(x: u32, most: usize) -> usize
-    ensures { result ≤ most }
-{
-    let length = size(x);
-    if length <= most { length } else { most }
-}
-
-// What stands at a place of a slice in which each period-th item is `other`.
-fn item(i: usize, value: u32, period: usize, other: u32) -> u32 {
-    if period == 0 {
-        return value;
+impl Filling {
+    fn item(&self, i: usize) -> u32 {
+        if self.period != 0 && i % self.period == self.period - 1 {
+            self.other
+        } else {
+            self.value
+        }
     }
-    if i % period == period - 1 {
-        other
-    } else {
-        value
+
+    pub(crate) fn fill(&self, items: &mut [u32]) {
+        for (i, x) in items.iter_mut().enumerate() {
+            *x = self.item(i);
+        }
     }
 }
 
-fn fill(items: &mut [u32], end: usize, value: u32, period: usize, other: u32)
-    requires { end ≤ length items.old }
-{
-    let mut i = 0;
-    while i < end {
-        items[i] = item(i, value, period, other);
-        i += 1;
+// What is called.
+#[derive(Clone, Copy)]
+pub(crate) enum Call {
+    ApplyEdit(Edit),
+    SetCursor(Position),
+}
+
+// The rooms are how long the slices for the inverse's payload and lists are.
+#[derive(Clone, Copy)]
+pub(crate) struct Trial {
+    pub(crate) call: Call,
+    pub(crate) view: View,
+    pub(crate) text: Filling,
+    pub(crate) payload: Filling,
+    pub(crate) first: Filling,
+    pub(crate) second: Filling,
+    pub(crate) rooms: [u32; 3],
+}
+
+fn call_of(kind: u32, start: Position, end: Position) -> Option<Call> {
+    match kind {
+        11 => Some(Call::SetCursor(start)),
+        _ => Some(Call::ApplyEdit(Kind::try_from(kind).ok()?.edit(start, end))),
     }
 }
 
-// The sum goes on from `start`, so that several slices have one.
-fn checksum(start: u64, items: &[u32]) -> u64 {
-    let mut sum = start % MODULUS;
-    let mut i = 0;
-    while i < items.len() {
-        sum = (sum * 65599 + wide(items[i])) % MODULUS;
-        i += 1;
+fn characters(length: u32, value: u32, period: u32) -> Filling {
+    Filling {
+        length: length as usize,
+        value,
+        period: period as usize,
+        other: LF,
     }
-    sum
 }
 
-fn checksum_of(
-    text: &[u32; ROOM],
-    payload: &[u32; ROOM],
-    first: &[u32; ITEMS],
-    second: &[u32; ITEMS],
-) -> u64 {
-    let mut sum = checksum(1, text);
-    sum = checksum(sum, payload);
-    sum = checksum(sum, first);
-    checksum(sum, second)
-}
-
-fn edit_in(n: [u32; NUMBERS]) -> Edit {
-    edit_of(n[0], position(n[5], n[6]), position(n[7], n[8]))
+// A list whose last item is another.
+fn list(length: u32, value: u32, last: u32) -> Filling {
+    let length = (length as usize).min(ITEMS);
+    Filling {
+        length,
+        value,
+        period: length,
+        other: last,
+    }
 }
 
 // The cursor handed in stands outside every text, which is no refusal.
-fn view_of(n: [u32; NUMBERS]) -> View {
+fn view_of(used: u32, high: u32, low: u32) -> View {
     View {
-        used: size(n[2]),
-        cursor: position(0xFFFFFFFF, 0xFFFFFFFF),
-        changes: wide(n[20]) * 4294967296 + wide(n[21]),
+        used: used as usize,
+        cursor: position(u32::MAX, u32::MAX),
+        changes: u64::from(high) * 0x1_0000_0000 + u64::from(low),
     }
 }
 
-fn same_view(a: View, b: View) -> bool {
-    let at = a.cursor;
-    let other = b.cursor;
-    (a.used == b.used)
-        & (at.row.0 == other.row.0)
-        & (at.col.0 == other.col.0)
-        & (a.changes == b.changes)
-}
-
-// The arrays are made in functions of their own: where a proof sees one being made, it has each of its elements.
-fn blank_room() -> [u32; ROOM]
-    ensures { 16400 ≡ length result }
-{
-    [FILL; ROOM]
-}
-
-fn blank_items() -> [u32; ITEMS]
-    ensures { 300 ≡ length result }
-{
-    [FILL; ITEMS]
-}
-
-pub(crate) fn try_edit(n: [u32; NUMBERS]) {
-    let mut payload = blank_room();
-    let mut first = blank_items();
-    let mut second = blank_items();
-    let payload_end = upto(n[9], ROOM);
-    let first_end = upto(n[11], ITEMS);
-    let second_end = upto(n[14], ITEMS);
-    fill(&mut payload, payload_end, n[10], 0, 0);
-    fill(&mut first, first_end, n[12], first_end, n[13]);
-    fill(&mut second, second_end, n[15], second_end, n[16]);
-    call(
-        n,
-        &payload[0..payload_end],
-        &first[0..first_end],
-        &second[0..second_end],
-    );
-}
-
-fn call(n: [u32; NUMBERS], payload: &[u32], first: &[u32], second: &[u32]) {
-    let mut text = blank_room();
-    let mut outpayload = blank_room();
-    let mut outfirst = blank_items();
-    let mut outsecond = blank_items();
-    let text_end = upto(n[1], ROOM);
-    let payload_end = upto(n[17], ROOM);
-    let first_end = upto(n[18], ITEMS);
-    let second_end = upto(n[19], ITEMS);
-    fill(&mut text, text_end, n[3], size(n[4]), LF);
-    let before = checksum_of(&text, &outpayload, &outfirst, &outsecond);
-    let given = view_of(n);
-    let stood = apply_lent(
-        &mut text[0..text_end],
-        given,
-        edit_in(n),
-        payload,
-        first,
-        second,
-        &mut outpayload[0..payload_end],
-        &mut outfirst[0..first_end],
-        &mut outsecond[0..second_end],
-    );
-    let after = checksum_of(&text, &outpayload, &outfirst, &outsecond);
-    let answer = stood.answer;
-    let view = stood.view;
-    match answer {
-        Err(refusal) => {
-            print_refused(refusal, (before == after) & same_view(given, view))
-        }
-        Ok(applied) => print_done(
-            view,
-            applied,
-            &text,
-            &outpayload,
-            &outfirst,
-            &outsecond,
-            after,
-        ),
+impl Trial {
+    // None where the line has anything but up to so many numbers, or no call's kind.
+    pub(crate) fn read(line: &[u8]) -> Option<Trial> {
+        let mut numbers = [0; NUMBERS];
+        read_numbers(line, &mut numbers)?;
+        Trial::of(numbers)
     }
-}
 
-pub(crate) fn try_cursor(n: [u32; NUMBERS]) {
-    let mut text = blank_room();
-    let text_end = upto(n[1], ROOM);
-    fill(&mut text, text_end, n[3], size(n[4]), LF);
-    print_cursor(set_cursor(&text[0..text_end], view_of(n), position(n[5], n[6])));
+    fn of(numbers: [u32; NUMBERS]) -> Option<Trial> {
+        let [
+            kind,
+            length,
+            used,
+            value,
+            period,
+            row,
+            col,
+            end_row,
+            end_col,
+            payload_length,
+            payload_value,
+            first_length,
+            first_value,
+            first_last,
+            second_length,
+            second_value,
+            second_last,
+            payload,
+            first,
+            second,
+            high,
+            low,
+        ] = numbers;
+        Some(Trial {
+            call: call_of(kind, position(row, col), position(end_row, end_col))?,
+            view: view_of(used, high, low),
+            text: characters(length, value, period),
+            payload: characters(payload_length, payload_value, 0),
+            first: list(first_length, first_value, first_last),
+            second: list(second_length, second_value, second_last),
+            rooms: [payload, first, second],
+        })
+    }
 }

@@ -1,8 +1,8 @@
-// How a program takes its input apart: lines, and the hexadecimal numbers of a line.
+// How a program takes its input: all of its text, and the hexadecimal numbers of a line.
 #![tactic(auto)]
 
+mod input;
 mod numbers;
-mod part;
 
-pub use numbers::{Numbers, read_numbers, size};
-pub use part::{Part, is_passed_over, part_at};
+pub use input::{is_passed_over, read_text};
+pub use numbers::read_numbers;

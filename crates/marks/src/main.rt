@@ -8,49 +8,38 @@
 //                   its ends, its rows, and what it covers of that row
 #![tactic(auto)]
 
+mod case;
 mod replay;
 
+use crate::case::Case;
 use crate::replay::replay;
-use lines::{is_passed_over, part_at, read_numbers};
-
-const STDIN_FILENO: i32 = 0;
-
-const STDOUT_FILENO: i32 = 1;
+use lines::{is_passed_over, read_numbers, read_text};
+use std::io;
 
 // The most numbers of a line.
 const NUMBERS: usize = 64;
 
-fn replay_line(line: &[u8]) {
-    if is_passed_over(line) {
-        return;
-    }
-    let mut numbers = [0u32; NUMBERS];
-    let read = read_numbers(line, &mut numbers);
-    let count = read.count;
-    if read.well_formed {
-        replay(&numbers[0..count]);
-    } else {
-        io::write_all(STDOUT_FILENO, b"malformed");
-    }
-    io::write_all(STDOUT_FILENO, b"\n");
-}
-
-fn replay_lines(text: &[u8]) {
-    let mut start = 0;
-    while start < text.len() {
-        let line = part_at(text, start, b'\n');
-        let end = line.end;
-        replay_line(&text[start..end]);
-        start = line.next;
+fn replay_line(out: &impl Print, line: &[u8]) -> io::Result<()> {
+    let mut numbers = [0; NUMBERS];
+    match read_numbers(line, &mut numbers).and_then(Case::of) {
+        Some(case) => replay(out, case),
+        None => println!(out; "malformed"),
     }
 }
 
-fn main() {
-    let mut input = io::large_buffer();
-    let length = io::read_full(STDIN_FILENO, &mut input);
-    if length == 65536 {
-        io::write_all(STDOUT_FILENO, b"the input is too long\n");
-        return;
+fn replay_lines(out: &impl Print, text: &[u8]) -> io::Result<()> {
+    for line in text.split(|x| *x == b'\n') {
+        if !is_passed_over(line) {
+            replay_line(out, line)?;
+        }
     }
-    replay_lines(&input[0..length]);
+    Ok(())
+}
+
+fn main(rt: HostRuntime) -> io::Result<()> {
+    let mut room = [0; 65_536];
+    match read_text(rt.stdin(), &mut room)? {
+        Some(text) => replay_lines(&rt, text),
+        None => println!(rt; "the input is too long"),
+    }
 }

@@ -1,254 +1,100 @@
-// One case, by its numbers.
-ghost use Rattle.std.specs.Prelude.{◌≤◌, length};
-
-use edit::{Edit, Refusal, View};
-use lines::size;
+// What the port answers to a case.
+use crate::case::{Case, Shift};
+use edit::{Refusal, View};
 use merge::merge_overlapping;
 use select::{RowSpan, Sel, Selection};
 use shift::{shift_position, shift_sel};
+use std::io;
 use text::{Position, Row};
-use trials::{edit_of, position};
-
-const STDOUT_FILENO: i32 = 1;
-
-// The numbers of a shift before its text.
-const HEAD: usize = 13;
+use trials::{Spot, position};
 
 // The most numbers that are merged here.
 const MERGED: usize = 64;
 
-fn print_number(n: u64) {
-    io::write_all(STDOUT_FILENO, b" ");
-    io::print_decimal(STDOUT_FILENO, n);
+fn print_refused(out: &impl Print, refusal: Refusal) -> io::Result<()> {
+    print!(out; "refused {}", refusal.number())
 }
 
-fn print_position(at: Position) {
-    print_number(at.row.0 as u64);
-    print_number(at.col.0 as u64);
-}
-
-fn print_refused(refusal: Refusal) {
-    io::write_all(STDOUT_FILENO, b"refused");
-    print_number(refusal.number() as u64);
-}
-
-fn print_malformed() {
-    io::write_all(STDOUT_FILENO, b"malformed");
-}
-
-fn print_shifted(answer: Result<Option<Position>, Refusal>) {
+fn print_shifted(out: &impl Print, answer: Result<Option<Position>, Refusal>) -> io::Result<()> {
     match answer {
-        Ok(Some(pos)) => {
-            io::write_all(STDOUT_FILENO, b"to");
-            print_position(pos);
-        }
-        Ok(None) => {
-            io::write_all(STDOUT_FILENO, b"dropped");
-        }
-        Err(why) => print_refused(why),
+        Ok(Some(pos)) => print!(out; "to {}", Spot(pos)),
+        Ok(None) => print!(out; "dropped"),
+        Err(why) => print_refused(out, why),
     }
 }
 
-fn print_sel_shifted(answer: Result<Option<Sel>, Refusal>) {
+fn print_sel_shifted(out: &impl Print, answer: Result<Option<Sel>, Refusal>) -> io::Result<()> {
     match answer {
-        Ok(Some(sel)) => {
-            let anchor = sel.anchor;
-            let head = sel.head;
-            print_position(anchor);
-            print_position(head);
-        }
-        Ok(None) => {
-            io::write_all(STDOUT_FILENO, b" dropped");
-        }
-        Err(why) => {
-            io::write_all(STDOUT_FILENO, b" ");
-            print_refused(why);
-        }
+        Ok(Some(sel)) => print!(out; "{} {}", Spot(sel.anchor), Spot(sel.head)),
+        Ok(None) => print!(out; "dropped"),
+        Err(why) => print_refused(out, why),
     }
 }
 
-fn shift_both(text: &[u32], edit: Edit, payload: &[u32], first: &[u32], second: &[u32], sel: Sel) {
+fn replay_shift(out: &impl Print, shift: Shift<'_>) -> io::Result<()> {
+    let Shift {
+        edit,
+        sel,
+        text,
+        payload,
+        first,
+        second,
+    } = shift;
     let view = View {
         used: text.len(),
         cursor: position(0, 0),
         changes: 0,
     };
-    let anchor = sel.anchor;
-    print_shifted(shift_position(text, view, edit, payload, first, second, anchor));
-    io::write_all(STDOUT_FILENO, b" both");
-    print_sel_shifted(shift_sel(text, view, edit, payload, first, second, sel));
+    let anchor = shift_position(text, view, edit, payload, first, second, sel.anchor);
+    print_shifted(out, anchor)?;
+    print!(out; " both ")?;
+    let both = shift_sel(text, view, edit, payload, first, second, sel);
+    print_sel_shifted(out, both)
 }
 
-// Where a part of this length ends that starts at `start`, within the whole.
-fn end_of(start: usize, length: u32, whole: usize) -> usize
-    requires { start ≤ whole }
-    ensures { (start ≤ result) × (result ≤ whole) }
-{
-    let length = size(length);
-    if length <= whole - start {
-        start + length
-    } else {
-        whole
+fn print_numbers(out: &impl Print, numbers: &[u32]) -> io::Result<()> {
+    for n in numbers {
+        print!(out; " {n}")?;
     }
+    Ok(())
 }
 
-// How many numbers the text, the payload and the two lists have.
-#[derive(Clone, Copy)]
-struct Lengths {
-    text: u32,
-    payload: u32,
-    first: u32,
-    second: u32,
-}
-
-fn total(lengths: Lengths) -> usize {
-    size(lengths.text) + size(lengths.payload) + size(lengths.first) + size(lengths.second)
-}
-
-fn shift_over(edit: Edit, sel: Sel, lengths: Lengths, numbers: &[u32]) {
-    let whole = numbers.len();
-    let text_end = end_of(0, lengths.text, whole);
-    let payload_end = end_of(text_end, lengths.payload, whole);
-    let first_end = end_of(payload_end, lengths.first, whole);
-    if total(lengths) != whole {
-        print_malformed();
-        return;
-    }
-    shift_both(
-        &numbers[0..text_end],
-        edit,
-        &numbers[text_end..payload_end],
-        &numbers[payload_end..first_end],
-        &numbers[first_end..],
-        sel,
-    );
-}
-
-fn edit_in(n: &[u32]) -> Edit
-    requires { 13 ≤ length n.now }
-{
-    edit_of(n[0], position(n[1], n[2]), position(n[3], n[4]))
-}
-
-fn sel_in(n: &[u32]) -> Sel
-    requires { 13 ≤ length n.now }
-{
-    Sel::new(position(n[5], n[6]), position(n[7], n[8]))
-}
-
-fn lengths_in(n: &[u32]) -> Lengths
-    requires { 13 ≤ length n.now }
-{
-    Lengths {
-        text: n[9],
-        payload: n[10],
-        first: n[11],
-        second: n[12],
-    }
-}
-
-fn replay_shift(n: &[u32]) {
-    if n.len() < HEAD {
-        print_malformed();
-        return;
-    }
-    shift_over(edit_in(n), sel_in(n), lengths_in(n), &n[HEAD..]);
-}
-
-fn print_item(n: u32) {
-    print_number(n as u64);
-}
-
-fn print_numbers(numbers: &[u32]) {
-    let mut i = 0;
-    while i < numbers.len() {
-        print_item(numbers[i]);
-        i += 1;
-    }
-}
-
-fn replay_merge(sels: &[u32]) {
-    let mut out = [0u32; MERGED];
-    let answer = merge_overlapping(sels, &mut out);
-    match answer {
+// Printed is how many are left, and which, where these are few.
+fn replay_merge(out: &impl Print, sels: &[u32]) -> io::Result<()> {
+    let mut merged = [0; MERGED];
+    match merge_overlapping(sels, &mut merged) {
         Ok(count) => {
-            io::write_all(STDOUT_FILENO, b"merged");
-            print_number(count as u64);
-            if count <= MERGED / 4 {
-                let end = 4 * count;
-                print_numbers(&out[0..end]);
-            }
+            print!(out; "merged {count}")?;
+            let numbers = merged.get(..count.saturating_mul(4));
+            print_numbers(out, numbers.unwrap_or_default())
         }
-        Err(why) => print_refused(why),
+        Err(why) => print_refused(out, why),
     }
 }
 
-fn selection_of(kind: u32, anchor: Position, head: Position) -> Selection {
-    let anchor_row = anchor.row;
-    let head_row = head.row;
-    match kind {
-        0 => Selection::Char { anchor, head },
-        1 => Selection::Line {
-            anchor_row,
-            head_row,
-        },
-        _ => Selection::Block { anchor, head },
-    }
-}
-
-fn print_span(span: RowSpan) {
+fn print_span(out: &impl Print, span: RowSpan) -> io::Result<()> {
     match span {
-        RowSpan::Outside => {
-            io::write_all(STDOUT_FILENO, b" outside");
-        }
-        RowSpan::Closed { lo, hi } => {
-            io::write_all(STDOUT_FILENO, b" from");
-            print_number(lo.0 as u64);
-            io::write_all(STDOUT_FILENO, b" to");
-            print_number(hi.0 as u64);
-        }
-        RowSpan::Open { lo } => {
-            io::write_all(STDOUT_FILENO, b" from");
-            print_number(lo.0 as u64);
-        }
+        RowSpan::Outside => print!(out; " outside"),
+        RowSpan::Closed { lo, hi } => print!(out; " from {} to {}", lo.0, hi.0),
+        RowSpan::Open { lo } => print!(out; " from {}", lo.0),
     }
 }
 
-fn print_selection(selection: Selection, row: Row) {
-    io::write_all(STDOUT_FILENO, b"anchor");
-    print_position(selection.anchor());
-    io::write_all(STDOUT_FILENO, b" head");
-    print_position(selection.head());
+fn replay_selection(out: &impl Print, selection: Selection, row: Row) -> io::Result<()> {
+    let anchor = Spot(selection.anchor());
+    let head = Spot(selection.head());
     let bounds = selection.row_bounds();
-    io::write_all(STDOUT_FILENO, b" rows");
-    print_number(bounds.top.0 as u64);
-    print_number(bounds.bottom.0 as u64);
-    print_span(selection.row_span(row));
+    let top = bounds.top.0;
+    let bottom = bounds.bottom.0;
+    print!(out; "anchor {anchor} head {head} rows {top} {bottom}")?;
+    print_span(out, selection.row_span(row))
 }
 
-fn replay_selection(n: &[u32]) {
-    if n.len() != 9 {
-        print_malformed();
-        return;
+pub(crate) fn replay(out: &impl Print, case: Case<'_>) -> io::Result<()> {
+    match case {
+        Case::Shift(shift) => replay_shift(out, shift)?,
+        Case::Merge(sels) => replay_merge(out, sels)?,
+        Case::Select(selection, row) => replay_selection(out, selection, row)?,
     }
-    let selection = selection_of(n[0], position(n[1], n[2]), position(n[3], n[4]));
-    let row = Row(n[8]);
-    if n[5] == 0 {
-        print_selection(selection, row);
-    } else {
-        print_selection(selection.extend_to(position(n[6], n[7])), row);
-    }
-}
-
-pub(crate) fn replay(numbers: &[u32]) {
-    if numbers.len() == 0 {
-        print_malformed();
-        return;
-    }
-    match numbers[0] {
-        1 => replay_shift(&numbers[1..]),
-        2 => replay_merge(&numbers[1..]),
-        3 => replay_selection(&numbers[1..]),
-        _ => print_malformed(),
-    }
+    println!(out)
 }

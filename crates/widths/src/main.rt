@@ -9,70 +9,61 @@
 #![tactic(auto)]
 
 mod entry;
-mod tally;
 
-ghost use Rattle.std.specs.Prelude.{◌≤◌, length};
+use entry::{cut, read_entry};
+use fit::box_fit;
+use lines::read_text;
+use std::io;
 
-use entry::{place_of, read_entry};
-use lines::part_at;
-use tally::{Tally, ask_range, ask_scalars};
-
-const STDIN_FILENO: i32 = 0;
-
-const STDOUT_FILENO: i32 = 1;
-
-// How many code points of the line are wide: none, if it is malformed.
-fn print_line(line: &[u8]) -> u64
-    ensures { result ≤ 0x110000 }
-{
-    let end = place_of(line, b' ');
-    let head = &line[0..end];
-    let entry = read_entry(head);
-    let tally = ask_range(entry.first, entry.end);
-    io::write_all(STDOUT_FILENO, head);
-    io::write_all(STDOUT_FILENO, b" ");
-    if entry.well_formed {
-        io::print_decimal(STDOUT_FILENO, tally.wide);
-    } else {
-        io::write_all(STDOUT_FILENO, b"malformed");
-    }
-    io::write_all(STDOUT_FILENO, b"\n");
-    tally.wide
+// Whether a character leaves a box of one cell by itself.
+fn is_wide(point: u32) -> bool {
+    matches!(box_fit(&[point], 1, 1, 1), Ok(Some(_)))
 }
 
-fn print_lines(text: &[u8]) -> Tally
-    requires { length text.now ≤ 65536 }
-{
-    let mut count = 0;
-    let mut wide = 0;
-    let mut start = 0;
-    while start < text.len() {
-        let line = part_at(text, start, b'\n');
-        let end = line.end;
-        count += 1;
-        wide += print_line(&text[start..end]);
-        start = line.next;
+// Prints a line, and answers how many of its code points are wide: none, if it is malformed.
+fn print_line(out: &impl Print, line: &[u8]) -> io::Result<usize> {
+    let (head, _) = cut(line, b' ');
+    out.write_all(head)?;
+    match read_entry(head) {
+        Some(points) => {
+            let wide = points.filter(|x| is_wide(*x)).count();
+            println!(out; " {wide}")?;
+            Ok(wide)
+        }
+        None => {
+            println!(out; " malformed")?;
+            Ok(0)
+        }
     }
-    Tally { count, wide }
 }
 
-fn print_tally(before: &[u8], tally: Tally, unit: &[u8]) {
-    io::write_all(STDOUT_FILENO, before);
-    io::print_decimal(STDOUT_FILENO, tally.count);
-    io::write_all(STDOUT_FILENO, unit);
-    io::print_decimal(STDOUT_FILENO, tally.wide);
-    io::write_all(STDOUT_FILENO, b"\n");
+fn print_lines(out: &impl Print, text: &[u8]) -> io::Result<()> {
+    let mut count = 0usize;
+    let mut wide = 0usize;
+    for line in text.split_inclusive(|x| *x == b'\n') {
+        let line = line.strip_suffix(b"\n").unwrap_or(line);
+        count = count.saturating_add(1);
+        wide = wide.saturating_add(print_line(out, line)?);
+    }
+    println!(out; "wide in {count} lines: {wide}")
 }
 
-fn main() {
-    let mut input = io::large_buffer();
-    let length = io::read_full(STDIN_FILENO, &mut input);
-    if length == 65536 {
-        io::write_all(STDOUT_FILENO, b"the input is too long\n");
-        return;
+fn print_scalars(out: &impl Print) -> io::Result<()> {
+    let count = (0..=0x10FFFF).filter_map(char::from_u32).count();
+    let wide = (0..=0x10FFFF)
+        .filter_map(char::from_u32)
+        .filter(|x| is_wide(u32::from(*x)))
+        .count();
+    println!(out; "wide of {count} scalars: {wide}")
+}
+
+fn main(rt: HostRuntime) -> io::Result<()> {
+    let mut room = [0; 65_536];
+    match read_text(rt.stdin(), &mut room)? {
+        Some(text) => {
+            print_lines(&rt, text)?;
+            print_scalars(&rt)
+        }
+        None => println!(rt; "the input is too long"),
     }
-    let lines = print_lines(&input[0..length]);
-    print_tally(b"wide in ", lines, b" lines: ");
-    let scalars = ask_scalars();
-    print_tally(b"wide of ", scalars, b" scalars: ");
 }

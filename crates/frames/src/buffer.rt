@@ -1,0 +1,59 @@
+// Bytes that are put together. What has no room is left out.
+ghost use Rattle.std.specs.Prelude.{◌≤◌};
+
+use crate::words::{Word, word_of};
+
+pub(crate) const ROOM: usize = 131_072;
+
+#[derive(Drop)]
+pub(crate) struct Buffer {
+    bytes: [u8; ROOM],
+    length: usize,
+    ghost within: { length ≤ 131_072 },
+}
+
+impl Buffer {
+    pub(crate) fn new() -> Buffer {
+        Buffer {
+            bytes: [0; ROOM],
+            length: 0,
+        }
+    }
+
+    pub(crate) fn as_slice(&self) -> &[u8] {
+        &self.bytes[..self.length]
+    }
+
+    pub(crate) fn clear(&mut self) {
+        self.length = 0;
+    }
+
+    fn push(&mut self, bytes: &[u8]) {
+        let count = bytes.len().min(ROOM - self.length);
+        let end = self.length + count;
+        self.bytes[self.length..end].copy_from_slice(&bytes[..count]);
+        self.length = end;
+    }
+
+    fn push_times(&mut self, bytes: &[u8], times: usize) {
+        for _ in 0..times {
+            self.push(bytes);
+        }
+    }
+
+    // The words of a line, one behind the other.
+    pub(crate) fn push_words(&mut self, line: &[u8]) {
+        for word in line.split(|x| *x == b' ') {
+            match word_of(word) {
+                Word::Octet(octet) => self.push(&[octet]),
+                Word::Repeated(digits, times) => self.push_times(digits, times),
+            }
+        }
+    }
+
+    // The same, and LF.
+    pub(crate) fn push_line(&mut self, line: &[u8]) {
+        self.push_words(line);
+        self.push(b"\n");
+    }
+}
