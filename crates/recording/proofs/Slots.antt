@@ -39,20 +39,19 @@ part-next out out' p q w at m k e f h u v =
 -- ---- a list written item by item: w is the whole, r what is still to come after i of n items
 
 pub record Listing (w r o₀ o : List ℕ) (n i : ℕ) : Type 0 where
-  pub upto : i ≤ n
   pub same : length o ≡ length o₀
   pub rest : paste o i r (n - i) ≡ over w o₀
 
 pub listing_none : (w r o : List ℕ) (n : ℕ) → length w ≡ n → r ≡ w → Listing w r o o n 0
-listing_none w r o n e q = record { upto = omega arith; same = refl; rest = rw (sub-zero, q) (slot_first o w n e) }
+listing_none w r o n e q = record { same = refl; rest = rw (sub-zero, q) (slot_first o w n e) }
 
 pub listing_next : (w r s o₀ o : List ℕ) (n i v : ℕ) → Listing w r o₀ o n i → i < n → n ≤ length o₀ → r ≡ v ∷ s → Listing w s o₀ (set o i v) n (i + 1)
 listing_next w r s o₀ o n i v L h k e =
     let q = L.same in
-    record { upto = omega arith; same = length-set o i v ∙ q; rest = slot_next o r s (over w o₀) i n v h (omega arith) e L.rest }
+    record { same = length-set o i v ∙ q; rest = slot_next o r s (over w o₀) i n v h (omega arith) e L.rest }
 
 pub listing_all : (w r o₀ o x : List ℕ) (n i : ℕ) → Listing w r o₀ o n i → n ≤ i → x ≡ w → o ≡ over x o₀
-listing_all w r o₀ o x n i L h e = let u = L.upto in slot_last o r (over w o₀) i (n - i) (omega arith) L.rest ∙ ap (λ (y : List ℕ). over y o₀) (sym e)
+listing_all w r o₀ o x n i L h e = slot_last o r (over w o₀) i (n - i) (omega arith) L.rest ∙ ap (λ (y : List ℕ). over y o₀) (sym e)
 
 -- ---- zeros behind a list
 

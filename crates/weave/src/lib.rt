@@ -10,7 +10,7 @@ ghost use Rattle.text.specs.Text.{renewed};
 ghost use Rattle.steps.specs.Steps.{woven};
 ghost use Rattle.steps.specs.Numbers.{steps_of, passed_by, come_by, size_by, woven_from};
 
-use splice::{copy_in, fill, shift_down, shift_up};
+use splice::{copy_in, fill};
 use text::CharOffset;
 
 // Moves the `count` places from `from` on to `to`.
@@ -18,13 +18,7 @@ fn move_piece(text: &mut [u32], from: usize, to: usize, count: usize)
     requires { (from + count ≤ length text.old) × (to + count ≤ length text.old) }
     ensures { text.new ≡ paste text.old to (drop from text.old) count }
 {
-    if to < from {
-        shift_down(&mut text[to..], count, from - to);
-        return;
-    }
-    if from < to {
-        shift_up(&mut text[from..], count, to - from);
-    }
+    text.copy_within(from..from + count, to);
 }
 
 // Puts `value` so many times, and then the payload, over what stands from `at` on.

@@ -1,14 +1,12 @@
-use native.Mathlib.Omega.{arith}
-use Rattle.text.proofs.Scans.{last_at-lf, last_at-other, last_at-end}
-use Rattle.recording.proofs.breaks_in.Goals.{then-part-i-eq-LF, else-part-i-eq-LF}
+use mathlib.Core.Path.{◌∙◌}
+use Rattle.std.proofs.Common.{rules, tests}
+use Rattle.std.proofs.lemmas.Iterator.{YieldsList-from_slice}
+use Rattle.std.proofs.lemmas.Iterator.Consumers.{YieldsList-from_filter, count_from_yields_List}
+use Rattle.text.specs.Text.{is_lf}
+use Rattle.recording.proofs.Totals.{breaks_counted}
 use Rattle.recording.proofs.breaks_in.Goals as goal
 
-pub loop-i-init : goal.loop-i-init
-loop-i-init c = omega arith
-
-pub loop-i-preserved : goal.loop-i-preserved
-loop-i-preserved c = let s = c.args.part.now in let i = c.loop-i.i in let h = c.loop-i-test.true in
-    elim c.if-part-i-eq-LF.branch [ then-part-i-eq-LF w ↦ omega (arith, last_at-lf s i h w.if-part-i-eq-LF.true) | else-part-i-eq-LF w ↦ omega (arith, last_at-other s i h w.if-part-i-eq-LF.false) ]
-
 pub returns : goal.returns
-returns c = let l = c.loop-i in omega (arith, last_at-end c.args.part.now l.i c.loop-i-test.false)
+returns c =
+    let s = c.args.part.now in
+    count_from_yields_List c.filter.result _ c.count.ensures.ran (YieldsList-from_filter _ is_lf (YieldsList-from_slice s cc) c.filter.ensures.closure (λ x b q k. search (rules, tests))) ∙ breaks_counted s
