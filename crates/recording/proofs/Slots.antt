@@ -1,6 +1,6 @@
 -- A slice filled from the front: at each turn what is still to come, pasted behind what stands there, gives the whole.
 use mathlib.Core.Path.{◌≡◌, refl, sym, ap, ◌∙◌}
-use mathlib.Core.List.{List, [], ◌∷◌, ◌++◌, append_assoc}
+use mathlib.Core.List.{List, ◌∷◌, ◌++◌, append_assoc}
 use Prim.Native.Nat.{ℕ, suc, ◌+◌, ◌-◌, ◌≤◌, ◌<◌}
 use native.Mathlib.Nat.{sub-zero}
 use native.Mathlib.Numerals.{add-one}
@@ -54,9 +54,6 @@ pub listing_all : (w r o₀ o x : List ℕ) (n i : ℕ) → Listing w r o₀ o n
 listing_all w r o₀ o x n i L h e = slot_last o r (over w o₀) i (n - i) (omega arith) L.rest ∙ ap (λ (y : List ℕ). over y o₀) (sym e)
 
 -- ---- zeros behind a list
-
-pub zeros_none : (o : List ℕ) (from to : ℕ) → to ≤ from → o ≡ paste o from (replicate (to - from) 0) (to - from)
-zeros_none o from to h = let z : to - from ≡ 0 = omega arith in rw z (paste-zero o from [])
 
 pub zeros_up : (p o o₁ o₂ : List ℕ) (n count : ℕ) → length p ≡ n → o₁ ≡ over p o → o₂ ≡ paste o₁ n (replicate (count - n) 0) (count - n) → o₂ ≡ over (filled_up count p) o
 zeros_up p o o₁ o₂ n count e q r = r ∙ rw (q, paste-behind p (replicate (count - n) 0) o n (count - n) e (length-replicate (count - n) 0), e)

@@ -1,31 +1,19 @@
 -- The sums of steps, taken one after another.
-use mathlib.Core.Path.{◌≡◌, refl, sym, ap, ◌∙◌}
-use mathlib.Core.Bool.{Bool, true, false}
-use mathlib.Core.List.{List, [], ◌∷◌, ◌++◌}
-use Prim.Native.Nat.{ℕ, suc, ◌+◌, ◌-◌, ◌*◌, ◌≤◌, ◌<◌}
+use mathlib.Core.Path.{◌≡◌, ap, ◌∙◌}
+use mathlib.Core.List.{List, ◌++◌}
+use Prim.Native.Nat.{ℕ, ◌+◌, ◌-◌, ◌*◌, ◌≤◌, ◌<◌}
 use native.Mathlib.Omega.{arith}
 use borrow.Author.Tests.{eq-eqb, ne_eqb}
 use lib.ListN.{length, take, drop, replicate, length-append, length-replicate, length-take}
 use lib.Seq.{drop-drop}
-use Rattle.std.specs.List.{filter}
 use Rattle.text.specs.Rows.{last_row}
 use Rattle.text.specs.Text.{is_lf}
-use Rattle.text.proofs.Laws.{last_append, last_le, last_lf, last_none, last_other, last_others, last_same}
+use Rattle.text.proofs.Laws.{last_append, last_le, last_others, last_same}
 use Rattle.steps.specs.Steps.{breaks_gone, breaks_come}
 use Rattle.steps.specs.Numbers.{steps_of, passed_by, laid_by, come_by, cut_by, size_by}
 use Rattle.recording.specs.declared.Five.{Five}
 use Rattle.recording.specs.Recorded.{five_at, sums_of}
 use Rattle.recording.proofs.Walks.{whole-left, passed-next, laid_next, come_next, going_next, coming_next, cut_next, none_passed, none_laid, none_cut, none_going, none_coming}
-
--- ---- the LFs of a part, counted
-
-pub breaks_counted : (s : List ℕ) → length (filter is_lf s) ≡ last_row is_lf s
-breaks_counted [] = sym (last_none is_lf)
-breaks_counted (x ∷ s) = go (is_lf x) refl (breaks_counted s)
-  where
-    go : (b : Bool) → is_lf x ≡ b → length (filter is_lf s) ≡ last_row is_lf s → length (filter is_lf (x ∷ s)) ≡ last_row is_lf (x ∷ s)
-    go true e h = rw (e, last_lf is_lf x s e) (ap suc h)
-    go false e h = rw (e, last_other is_lf x s e) h
 
 -- ---- what is made
 

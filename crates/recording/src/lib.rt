@@ -14,8 +14,7 @@ ghost use Rattle.steps.specs.Numbers.{steps_of, passed_by, laid_by, come_by, cut
 ghost use Rattle.recording.specs.Recorded.{five_at, sums_of, filled_up, columns, first_by, second_by, first_long, second_long};
 
 use edit::{Edit, MotionKind, extent};
-use splice::{copy_in, fill};
-use text::{CharOffset, LF};
+use text::LF;
 
 // A step's numbers; `back` is how many of those that go an inverse gives back.
 #[derive(Clone, Copy)]
@@ -57,7 +56,14 @@ fn five_at(steps: &[u32], i: usize) -> Five
 fn breaks_in(part: &[u32]) -> usize
     ensures { result ≡ last_row is_lf part.now }
 {
-    part.iter().filter(|x| **x == LF).count()
+    // Not `filter` and `count`, which are not vectorised.
+    let mut count = 0;
+    for x in part {
+        if *x == LF {
+            count += 1;
+        }
+    }
+    count
 }
 
 // How many of `pad` that are made.
@@ -119,9 +125,10 @@ pub fn record_cut(text: &[u32], steps: &[u32], n: usize, out: &mut [u32])
         let s = five_at(steps, i);
         let end = next + s.keep + s.gone;
         let start = end - s.back;
-        copy_in(out, CharOffset(done), &text[start..end]);
+        let till = done + s.back;
+        out[done..till].copy_from_slice(&text[start..end]);
         next = end;
-        done += s.back;
+        done = till;
     }
 }
 
@@ -166,7 +173,7 @@ fn zeros(out: &mut [u32], from: usize, to: usize)
     ensures { out.new ≡ paste out.old from (replicate (to - from) 0) (to - from) }
 {
     if from < to {
-        fill(out, CharOffset(from), to - from, 0);
+        out[from..to].fill(0);
     }
 }
 
@@ -198,7 +205,7 @@ fn record_first(edit: Edit, steps: &[u32], n: usize, start: usize, first: &[u32]
         Edit::JoinLines { .. } => record_places(steps, n, start, out),
         Edit::SplitLines { .. } => {}
         Edit::Replace { .. } => {}
-        Edit::InsertBlock { .. } => copy_in(out, CharOffset(0), first),
+        Edit::InsertBlock { .. } => out[..first.len()].copy_from_slice(first),
         Edit::DeleteBlockChunks { .. } => record_chunks(steps, n, first.len(), out),
     }
 }

@@ -1,12 +1,11 @@
-use mathlib.Core.Path.{◌∙◌}
-use Rattle.std.proofs.Common.{rules, tests}
-use Rattle.std.proofs.lemmas.Iterator.{YieldsList-from_slice}
-use Rattle.std.proofs.lemmas.Iterator.Consumers.{YieldsList-from_filter, count_from_yields_List}
-use Rattle.text.specs.Text.{is_lf}
-use Rattle.recording.proofs.Totals.{breaks_counted}
+use native.Mathlib.Omega.{arith}
+use Rattle.text.proofs.Scans.{last_at-lf, last_at-other, last_at-end}
+use Rattle.recording.proofs.breaks_in.Goals.{then-x-eq-LF, else-x-eq-LF}
 use Rattle.recording.proofs.breaks_in.Goals as goal
 
+pub loop-x-preserved : goal.loop-x-preserved
+loop-x-preserved c = let s = c.args.part.now in let i = c.loop-x.x-index in let h = c.loop-x-test.true in
+    elim c.if-x-eq-LF.branch [ then-x-eq-LF w ↦ omega (arith, last_at-lf s i h w.if-x-eq-LF.true) | else-x-eq-LF w ↦ omega (arith, last_at-other s i h w.if-x-eq-LF.false) ]
+
 pub returns : goal.returns
-returns c =
-    let s = c.args.part.now in
-    count_from_yields_List c.filter.result _ c.count.ensures.ran (YieldsList-from_filter _ is_lf (YieldsList-from_slice s cc) c.filter.ensures.closure (λ x b q k. search (rules, tests))) ∙ breaks_counted s
+returns c = let l = c.loop-x in omega (arith, last_at-end c.args.part.now l.x-index c.loop-x-test.false)
