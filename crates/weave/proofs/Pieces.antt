@@ -3,9 +3,17 @@ use mathlib.Core.Path.{◌≡◌, sym, ap, ◌∙◌}
 use mathlib.Core.List.{List, ◌++◌, append_assoc}
 use Prim.Native.Nat.{ℕ, ◌+◌, ◌-◌, ◌≤◌, min, max}
 use native.Mathlib.Omega.{arith}
+use borrow.Rule.Slice.PartMut.{put_mid}
 use lib.ListN.{length, take, drop, replicate, length-append, length-take, length-drop, length-replicate, take-append-drop}
 use lib.Seq.{paste, slice, drop_at, take_all, take-take, drop-drop, take-append-le, take-append-add, take-paste, drop-paste, length-take-le}
+use Rattle.std.proofs.lemmas.Slice.{put_mid-paste}
 use Rattle.promise.proofs.Lists.{drop-take, paste-both}
+
+-- a part from a to e, n long, filled with v
+pub part-filled : (b y : List ℕ) (a e n v : ℕ) → a + n ≡ e → e ≤ length b → y ≡ replicate (length (take (e - a) (drop a b))) v → put_mid a (e - a) b y ≡ paste b a (replicate n v) n
+part-filled b y a e n v h k q =
+    let l : length (take (e - a) (drop a b)) ≡ n = length-take (e - a) (drop a b) ∙ omega (arith, length-drop a b) in
+    put_mid-paste a (e - a) b y (replicate n v) n (q ∙ ap (λ (j : ℕ). replicate j v) l) (omega arith) (sym (length-replicate {A = ℕ} n v))
 
 pub laid-over : (b f t x : List ℕ) (v at pad : ℕ) → at + (pad + length x) ≤ length b → f ≡ paste b at (replicate pad v) pad → t ≡ paste f (at + pad) x (length x)
     → t ≡ paste b at (replicate pad v ++ x) (pad + length x)
