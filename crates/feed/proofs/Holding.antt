@@ -1,14 +1,13 @@
 -- Where a line ends, and what is held of it in its slice.
 use mathlib.Core.Path.{◌≡◌, refl, sym, ap, ◌∙◌}
 use mathlib.Core.Bool.{Bool, true, false, not, cond}
-use mathlib.Core.List.{List, [], ◌∷◌, ◌++◌, append_assoc}
+use mathlib.Core.List.{List, [], ◌∷◌, ◌++◌}
 use Prim.Native.Nat.{ℕ, ◌+◌, ◌-◌, ◌≤◌, min}
 use native.Mathlib.Decide.{dec_le}
 use native.Mathlib.Omega.{arith}
-use borrow.Rule.Slice.PartMut.{put_mid}
 use lib.Dec.{ltb}
 use lib.ListN.{length, take, length-append}
-use lib.Seq.{paste, drop-drop, take_all, take-paste, take-append-add, length-take-le}
+use lib.Seq.{paste, take_all, take-paste, take-append-add, length-take-le}
 use Rattle.std.proofs.Common.{Option, None, Some}
 use Rattle.std.specs.List.{position_or_len, position}
 use Rattle.std.specs.Option.{unwrap_or}
@@ -48,9 +47,5 @@ module _ (l b : List ℕ) (p : ℕ) (hp : p ≤ held_limit) (hl : held_limit ≤
       let i : length (take p l) + n ≡ held_limit = omega arith in
       take-paste l p b n (omega arith) h ∙ sym (take-append-add (take p l) b n) ∙ ap (λ (j : ℕ). take j (take p l ++ b)) i
 
-  held-paste : (n : ℕ) → n ≡ min (length b) (held_limit - p) → take (p + n) (paste l p b n) ≡ held (take p l ++ b)
+  pub held-paste : (n : ℕ) → n ≡ min (length b) (held_limit - p) → take (p + n) (paste l p b n) ≡ held (take p l ++ b)
   held-paste n e = elim (dec_le (length b) (held_limit - p)) [ yes h ↦ held_all n (omega arith) (omega arith) | no h ↦ held-full n (omega arith) (omega arith) ]
-
-  -- as `copy_from_slice` leaves them
-  pub held-put : (n : ℕ) (y : List ℕ) → n ≡ min (length b) (held_limit - p) → y ≡ take n b → take (p + n) (put_mid p (p + n - p) l y) ≡ held (take p l ++ b)
-  held-put n y e q = let k : p + n - p ≡ n = omega arith in rw (q, k, drop-drop, ← append_assoc) (held-paste n e)

@@ -5,10 +5,12 @@ use mathlib.Core.List.{List, [], ◌∷◌}
 use Prim.Native.Nat.{ℕ, ◌≤◌, ◌<◌}
 use borrow.Author.Tests.{le-ltb, lt-ltb}
 use lib.ListN.{length}
+use lib.Seq.{paste}
 use Rattle.promise.specs.Paper.{Paper, done, refused}
 use Rattle.promise.specs.Slices.{over}
 use Rattle.text.specs.Rows.{at}
 use Rattle.text.specs.Text.{all_admissible}
+use Rattle.splice.proofs.Overs.{paste-over}
 use Rattle.edit.specs.declared.View.{View}
 use Rattle.edit.specs.Edits.{Whole}
 use Rattle.select.specs.declared.Sel.{Sel}
@@ -44,10 +46,10 @@ module _ (c : Script) (t out : List ℕ) (ms : List (Followed Sel)) where
       unfolding loaded
       load_long r o h e = rw (← a, n, lt-ltb (length t) (length cs) h) (refused_part r 8 o e)
 
-      pub load_whole : (u : List ℕ) (v : View) → length cs ≤ length t → u ≡ over cs t → v ≡ record { used = length cs; cursor = at 0 0; changes = c.view.changes }
+      pub load_whole : (u : List ℕ) (v : View) → length cs ≤ length t → u ≡ paste t 0 cs (length cs) → v ≡ record { used = length cs; cursor = at 0 0; changes = c.view.changes }
           → part (record { script = record { view = v; place = c.place }; printed = 0 }) u out ≡ part_of (loaded before cs) out
       unfolding loaded
-      load_whole u v h p q = rw (← a, n, le-ltb (length t) (length cs) h, p, q)
+      load_whole u v h p q = rw (← a, n, le-ltb (length t) (length cs) h, p, paste-over, q)
 
   -- a line that is read as p
   module _ (f : Whole ℕ → Stepped) (p : Paper Frame) where

@@ -15,7 +15,8 @@ use crate::{Progress, Script};
 use edit::Refusal;
 use frame::BYTE_LIMIT;
 use reader::{FrameRead, read};
-use text::{Col, Position, Row, all_admissible};
+use splice::copy_in;
+use text::{CharOffset, Col, Position, Row, all_admissible};
 
 fn load(script: Script, chars: &[u32], text: &mut [u32], out: &mut [u8]) -> Progress
     requires { 3 ≤ length out.old }
@@ -27,7 +28,7 @@ fn load(script: Script, chars: &[u32], text: &mut [u32], out: &mut [u8]) -> Prog
     if text.len() < chars.len() {
         return refuse(script, Refusal::NoRoom, out);
     }
-    text[..chars.len()].copy_from_slice(chars);
+    copy_in(text, CharOffset(0), chars);
     let view = script.view;
     let place = script.place;
     let start = Position {

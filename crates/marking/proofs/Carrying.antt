@@ -1,13 +1,14 @@
 -- Marks carried one after the other in a flat slice.
-use mathlib.Core.Path.{◌≡◌, sym, ◌∙◌}
+use mathlib.Core.Path.{◌≡◌, sym, ap, ◌∙◌}
 use mathlib.Core.List.{List, [], ◌++◌, append_assoc, append-nil, map, map-append}
 use Prim.Native.Nat.{ℕ, ◌+◌, ◌-◌, ◌*◌, ◌≤◌, ◌<◌}
 use native.Mathlib.Omega.{arith}
 use native.Mathlib.Numerals.{add-one}
 use borrow.Author.Tests.{eq-eqb, ne_eqb}
 use lib.ListN.{length, take, drop, get_or, length-map, drop_of_length-le}
-use lib.Seq.{drop-cons, take-suc, take_all, take_at, drop_at, length-take-le}
+use lib.Seq.{paste, drop-cons, take-suc, take_all, take_at, drop_at, length-take-le}
 use Rattle.promise.specs.Slices.{over}
+use Rattle.splice.proofs.Overs.{paste-over}
 use Rattle.text.specs.Rows.{at}
 use Rattle.edit.specs.declared.Edit.{Edit}
 use Rattle.select.specs.declared.Sel.{Sel}
@@ -96,3 +97,18 @@ module _ (f : Followed Sel → Followed Sel) (n : ℕ) (l : List ℕ) where
       let k : length ms ≤ i = omega (arith, count_marks n l) in
       let e : length (flat_marks (map f ms)) ≡ length (flat_marks ms) = omega (arith, length-marks (map f ms), length-marks ms, length-map ms f) in
       rw (q, take_all i ms k, drop_of_length-le ms k, e)
+
+-- a slice copied over one of its length
+pub copied : (d s : List ℕ) → length s ≡ length d → paste d 0 s (length s) ≡ s
+copied d s e = let h : length d ≤ length s = omega arith in paste-over d s ∙ rw (drop_of_length-le d h, append-nil)
+
+-- marks copied, and carried there
+module _ (f : Followed Sel → Followed Sel) (n : ℕ) (m d t : List ℕ) (l : length m ≡ 320) (k : length d ≡ 320) (q : t ≡ paste d 0 m (length m)) where
+  there : t ≡ m
+  there = q ∙ copied d m (omega arith)
+
+  pub copy_holds : over (flat_marks (marks_in n m)) m ≡ m → (length t ≡ 320) × (over (flat_marks (marks_in n t)) t ≡ t)
+  copy_holds h = (omega (arith, ap length there), rw there h)
+
+  pub copy_carried : (u : List ℕ) → u ≡ over (flat_marks (map f (marks_in n t))) t → u ≡ over (flat_marks (map f (marks_in n m))) m
+  copy_carried u e = rw there at e

@@ -20,7 +20,8 @@ pub use ends::in_order;
 use printing::print_byte;
 use select::Sel;
 use shift::{Carried, carry_sel};
-use text::{Col, Position, Row};
+use splice::copy_in;
+use text::{CharOffset, Col, Position, Row};
 use writer::write_mark;
 
 fn position(row: u32, col: u32) -> Position
@@ -103,7 +104,7 @@ pub fn carry_copy(
     requires { (length text.now ≤ text_limit) × (small_ok edit first.now [] ≡ true) × (few_ok text.now edit payload.now first.now [] ≡ true) × (ordered_ok edit ≡ true) × (count ≤ 64) × (length marks.now ≡ 320) × (length moved.old ≡ 320) × (over (flat_marks (marks_in count marks.now)) marks.now ≡ marks.now) }
     ensures { moved.new ≡ over (flat_marks (map (carried_mark text.now edit payload.now first.now) (marks_in count marks.now))) marks.now }
 {
-    moved.copy_from_slice(marks);
+    copy_in(moved, CharOffset(0), marks);
     carry_marks(text, edit, payload, first, moved, count);
 }
 

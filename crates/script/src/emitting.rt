@@ -10,7 +10,10 @@ fn emit(part: &[u8], out: &mut [u8], at: usize, keep: bool)
     ensures { out.new ≡ cond keep (paste out.old at part.now (length part.now)) out.old }
 {
     if keep {
-        out[at..at + part.len()].copy_from_slice(part);
+        // Not `copy_from_slice`: it calls memmove, and the archive calls memcpy and memset alone.
+        for (i, byte) in part.iter().enumerate() {
+            out[at + i] = *byte;
+        }
     }
 }
 

@@ -25,6 +25,8 @@ use marking::{carry_copy, in_order};
 use place::Place;
 use printing::print_inverse;
 use reader::{FrameRead, read};
+use splice::copy_in;
+use text::CharOffset;
 
 // What an accepted edit leaves beside its text: the marks over it, and the line of its inverse.
 fn accept(
@@ -40,7 +42,7 @@ fn accept(
     requires { (length moved.now ≡ length marks.old) × (36_867 ≤ length out.old) × (done.payload ≤ length payload.now) × (done.first ≤ length first.now) × (done.second ≤ length second.now) × HasLine (edit_frame (inverse_in done payload.now first.now second.now)) }
     ensures { (result.script ≡ record { view = done.view; place = place }) × (marks.new ≡ moved.now) × (out.new ≡ over (printed_as (0 ∷ frame_bytes (edit_frame (inverse_in done payload.now first.now second.now)))) out.old) × (result.printed ≡ length (printed_as (0 ∷ frame_bytes (edit_frame (inverse_in done payload.now first.now second.now))))) }
 {
-    marks.copy_from_slice(moved);
+    copy_in(marks, CharOffset(0), moved);
     let x = done.payload;
     let f = done.first;
     let s = done.second;

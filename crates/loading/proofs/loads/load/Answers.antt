@@ -8,4 +8,4 @@ pub returns-then-text-chars : goal.returns-then-text-chars
 returns-then-text-chars c = λ ms. load_long c.args.script _ _ ms _ _ c.all_admissible.ensures c.if-not-all_admissible.false-raw _ _ c.if-text-chars.true c.refuse-then-text-chars.ensures
 
 pub returns : goal.returns
-returns c = λ ms. load_whole c.args.script _ _ ms _ _ c.all_admissible.ensures c.if-not-all_admissible.false-raw _ _ c.if-text-chars.false (rw c.copy_from_slice.ensures.after) c.renew.ensures
+returns c = λ ms. load_whole c.args.script _ _ ms _ _ c.all_admissible.ensures c.if-not-all_admissible.false-raw _ _ c.if-text-chars.false c.copy_in.ensures c.renew.ensures
