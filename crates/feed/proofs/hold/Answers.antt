@@ -18,4 +18,4 @@ loop-i-preserved c = let a = c.args in let l = c.loop-i in
 pub returns : goal.returns
 returns c = let a = c.args in let l = c.loop-i in let n = c.min-count in
     let z : l.i ≡ n.result = omega arith in
-    (omega arith, ap (take (a.pending + n.result)) (l.invariant.1 ∙ ap (paste a.line.now a.pending a.bytes.now) z) ∙ held-paste a.line.now a.bytes.now a.pending (search rules) (search rules) n.result (search rules))
+    (omega arith, ap (take (a.pending + n.result)) (l.invariant.1 ∙ ap (paste a.line.now a.pending a.bytes.now) z) ∙ held-paste a.line.now a.bytes.now a.pending (search rules) (search rules) n.result n.ensures)
