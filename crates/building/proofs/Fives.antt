@@ -17,10 +17,6 @@ pub skip_one : (ds : List ℕ) (k : ℕ) → k ≡ min (length ds) 1 → drop k 
 skip_one [] k e = let z : k ≡ 0 = omega arith in rw z
 skip_one (d ∷ ds) k e = let z : k ≡ 1 = omega arith in rw z
 
--- another number, where a subtraction stops at 0
-pub less : (c d m : ℕ) → m ≡ min d c → c - m ≡ c - d
-less c d m h = omega arith
-
 -- nothing before them
 pub ahead_none : (ss : List (Step ℕ)) → ahead 0 ss ≡ ss
 unfolding ahead

@@ -51,18 +51,12 @@ pub fn put_steps(
 pub fn first_of(list: &[u32]) -> u32
     ensures { result ≡ get_or list.now 0 0 }
 {
-    if 0 < list.len() {
-        return list[0];
-    }
-    0
+    list.first().copied().unwrap_or(0)
 }
 
 // How many items of a list of n the first row or column takes.
 pub fn one_of(n: usize) -> usize
     ensures { result ≡ min n 1 }
 {
-    if n < 1 {
-        return 0;
-    }
-    1
+    n.min(1)
 }

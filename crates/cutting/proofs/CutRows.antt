@@ -12,17 +12,8 @@ use Rattle.text.specs.Text.{is_lf}
 use Rattle.steps.specs.Steps.{Step, step, ahead}
 use Rattle.steps.specs.Numbers.{steps_of, come_by}
 use Rattle.steps.specs.Kinds.{cut_steps}
-use Rattle.building.proofs.Fives.{less, skip_one, behind_five, no_steps, none_come, first_step, first_comes, next_steps, next_come}
+use Rattle.building.proofs.Fives.{skip_one, behind_five, no_steps, none_come, first_step, first_comes, next_steps, next_come}
 use Rattle.building.proofs.Builds.{First, first_row}
-
-upto : (len c w k v : ℕ) → k ≡ min c len → v ≡ min w (len - k) → k + v ≡ min (c + w) len
-upto len c w k v hk hv = omega arith
-
--- where a row's cut begins and ends, and where the chunk in it begins, as `row_cut` finds them
-pub cut_at : (len col w d m from chunk wide : ℕ) → m ≡ min d col → from ≡ min (col - m) len → chunk ≡ min col len → wide ≡ min w (len - chunk)
-    → (from ≡ min (col - d) len) × (chunk ≡ min col len) × (chunk + wide ≡ min (col + w) len)
-cut_at len col w d m from chunk wide hm hf hc hw =
-    (hf ∙ ap (λ (k : ℕ). min k len) (less col d m hm), hc, upto len col w chunk wide hc hw)
 
 pub cuts_none : (c : ℕ) (ws ds : List ℕ) → cut_steps {A = ℕ} c ws ds [] ≡ []
 unfolding cut_steps

@@ -28,13 +28,10 @@ fn row_cut(len: Col, col: Col, width: u32, pads: &[u32]) -> RowCut
     ensures { (result.from ≡ min (col.0 - get_or pads.now 0 0) len.0) × (result.chunk ≡ min col.0 len.0) × (result.to ≡ min (col.0 + width) len.0) }
 {
     let pad = first_of(pads);
-    let from = Col(col.0 - Col(pad).min(col).0).min(len);
-    let chunk = col.min(len);
-    let wide = Col(width).min(Col(len.0 - chunk.0));
     RowCut {
-        from: from.0,
-        chunk: chunk.0,
-        to: chunk.0 + wide.0,
+        from: col.0.saturating_sub(pad).min(len.0),
+        chunk: col.0.min(len.0),
+        to: col.0.saturating_add(width).min(len.0),
     }
 }
 

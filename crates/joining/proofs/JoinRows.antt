@@ -1,12 +1,12 @@
 -- The steps of joins, row by row.
 use mathlib.Core.Path.{◌≡◌, refl, sym, ap, ◌∙◌}
 use mathlib.Core.Logic.{◌≢◌}
-use mathlib.Core.Bool.{Bool, true, false, cond, not, ◌&&◌, ◌||◌, and-false}
+use mathlib.Core.Bool.{Bool, true, false, cond, not, ◌&&◌, ◌||◌}
 use mathlib.Core.List.{List, [], ◌∷◌, ◌++◌, append_assoc}
 use Prim.Native.Nat.{ℕ, suc, ◌+◌, ◌-◌, ◌≤◌, ◌<◌}
 use native.Mathlib.Omega.{arith}
 use borrow.Author.Tests.{lt-ltb}
-use lib.Dec.{ltb, eqb}
+use lib.Dec.{ltb}
 use lib.ListN.{length, take, drop, get_or}
 use lib.Seq.{take-nil}
 use Rattle.promise.proofs.Lists.{tail_whole}
@@ -24,21 +24,6 @@ use Rattle.building.proofs.Builds.{First, first_row}
 
 abbrev pub gap_of : Bool → Bool → Bool → ℕ
 gap_of b s o = cond (b && s && o) 1 0
-
-pub gap-yes : (t : List ℕ) (b s : Bool) → 0 < length t → (b && s && not (eqb (get_or t 0 0) 10)) ≡ true → 1 ≡ gap_of b s (opens is_lf t)
-unfolding opens
-gap-yes [] b s h e = absurd (omega arith)
-gap-yes (x ∷ t) b s h e = rw e
-
-pub gap-no : (t : List ℕ) (b s : Bool) → 0 < length t → (b && s && not (eqb (get_or t 0 0) 10)) ≡ false → 0 ≡ gap_of b s (opens is_lf t)
-unfolding opens
-gap-no [] b s h e = absurd (omega arith)
-gap-no (x ∷ t) b s h e = rw e
-
-pub gap-end : (t : List ℕ) (b s : Bool) → length t ≤ 0 → 0 ≡ gap_of b s (opens is_lf t)
-unfolding opens
-gap-end [] b s h = rw (and-false (b && s))
-gap-end (x ∷ t) b s h = absurd (omega arith)
 
 gap_is : (b : Bool) (q y : List ℕ) → length (gap 32 b q y) ≡ gap_of b (filled q) (filled y)
 unfolding gap filled

@@ -17,15 +17,11 @@ use steps::put_step;
 use text::{LF, Row};
 
 // Whether a join adds a space: asked for, after a row that is not empty and before text whose first row is not.
+#[tactic(auto, unfolding(crate::specs::Joining::opens))]
 fn join_gap(spaced: bool, some: bool, text: &[u32]) -> u32
     ensures { result ≡ cond (spaced && some && opens is_lf text.now) 1 0 }
 {
-    if 0 < text.len() {
-        if spaced & some & (text[0] != LF) {
-            return 1;
-        }
-    }
-    0
+    u32::from(spaced && some && text.first().is_some_and(|x| *x != LF))
 }
 
 // One step for each of the first `n` rows that end with an LF. `carry` characters stand before the text; `some` says whether the

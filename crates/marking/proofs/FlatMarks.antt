@@ -3,7 +3,7 @@ use mathlib.Core.Path.{◌≡◌, refl, ap}
 use mathlib.Core.List.{List, [], ◌∷◌, ◌++◌, append_assoc}
 use Prim.Native.Nat.{ℕ, zero, suc, ◌+◌, ◌-◌, ◌*◌, ◌≤◌}
 use native.Mathlib.Omega.{arith}
-use lib.ListN.{length, take, drop, set, length-append, length-take, length-drop}
+use lib.ListN.{length, take, drop, length-append, length-take, length-drop}
 use lib.Seq.{paste, drop-drop, take_all}
 use Rattle.promise.specs.Slices.{over}
 use Rattle.select.specs.declared.Sel.{Sel}
@@ -56,13 +56,3 @@ pub five_pasted : (b y : List ℕ) (a : ℕ) → length y ≡ 5 → take a b ++ 
 five_pasted b y a e =
     let k : a + 5 - a ≡ 5 = omega arith in
     rw (k, drop-drop, take_all 5 y (omega arith), append_assoc)
-
--- five numbers stored one after the other
-pub five : (l : List ℕ) (a b c d e : ℕ) → length l ≡ 5 → set (set (set (set (set l 0 a) 1 b) 2 c) 3 d) 4 e ≡ a ∷ b ∷ c ∷ d ∷ e ∷ []
-five [] a b c d e h = absurd (omega arith)
-five (v ∷ []) a b c d e h = absurd (omega arith)
-five (v ∷ w ∷ []) a b c d e h = absurd (omega arith)
-five (v ∷ w ∷ x ∷ []) a b c d e h = absurd (omega arith)
-five (v ∷ w ∷ x ∷ y ∷ []) a b c d e h = absurd (omega arith)
-five (v ∷ w ∷ x ∷ y ∷ z ∷ []) a b c d e h = refl
-five (v ∷ w ∷ x ∷ y ∷ z ∷ u ∷ l) a b c d e h = absurd (omega arith)

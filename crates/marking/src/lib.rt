@@ -41,28 +41,22 @@ fn sel_in(mark: &[u32]) -> Sel
     Sel::new(position(mark[1], mark[2]), position(mark[3], mark[4]))
 }
 
+#[tactic(auto, unfolding(crate::specs::FlatMarks::flat_mark))]
 pub fn put_mark(mark: &mut [u32], sel: Sel)
     requires { length mark.old ≡ 5 }
     ensures { mark.new ≡ flat_mark (to sel) }
 {
     let anchor = sel.anchor;
     let head = sel.head;
-    mark[0] = 1;
-    mark[1] = anchor.row.0;
-    mark[2] = anchor.col.0;
-    mark[3] = head.row.0;
-    mark[4] = head.col.0;
+    mark.copy_from_slice(&[1, anchor.row.0, anchor.col.0, head.row.0, head.col.0]);
 }
 
+#[tactic(auto, unfolding(crate::specs::FlatMarks::flat_mark))]
 fn drop_mark(mark: &mut [u32])
     requires { length mark.old ≡ 5 }
     ensures { mark.new ≡ flat_mark dropped }
 {
-    mark[0] = 0;
-    mark[1] = 0;
-    mark[2] = 0;
-    mark[3] = 0;
-    mark[4] = 0;
+    mark.fill(0);
 }
 
 // One mark over an edit that is accepted.
@@ -91,10 +85,8 @@ fn carry_marks(
     requires { (length text.now ≤ text_limit) × (small_ok edit first.now [] ≡ true) × (few_ok text.now edit payload.now first.now [] ≡ true) × (ordered_ok edit ≡ true) × (count ≤ 64) × (length marks.old ≡ 320) × (over (flat_marks (marks_in count marks.old)) marks.old ≡ marks.old) }
     ensures { marks.new ≡ over (flat_marks (map (carried_mark text.now edit payload.now first.now) (marks_in count marks.old))) marks.old }
 {
-    let mut i = 0;
-    while i < count {
+    for i in 0..count {
         carry_mark(text, edit, payload, first, &mut marks[i * 5..i * 5 + 5]);
-        i += 1;
     }
 }
 

@@ -16,7 +16,6 @@ use Rattle.recording.proofs.Walks.{cuts_by, cut_by_lem, cuts_long, whole-left, p
 
 -- after i steps, of which `done` were written to o, and which passed over `next` of t
 pub record Cutting (t l o₀ o : List ℕ) (n next done i : ℕ) : Type 0 where
-  pub upto : i ≤ n
   pub same : length o ≡ length o₀
   pub in_text_lem : next + passed_by (n - i) (drop (5 * i) l) ≤ length t
   pub in_room : done + cut_by (n - i) (drop (5 * i) l) ≤ length o₀
@@ -27,7 +26,6 @@ cutting_none t l o n h k =
     let b = whole-left passed_by l n in
     let c = whole-left cut_by l n in
     record {
-      upto = omega arith;
       same = refl;
       in_text_lem = omega arith;
       in_room = omega arith;
@@ -88,7 +86,6 @@ module _ (t l o₀ o : List ℕ) (n next done i : ℕ) (C : Cutting t l o₀ o n
         let q = C.in_text_lem in
         let f = C.same in
         record {
-          upto = omega arith;
           same = ap length p ∙ length-paste o done P (length P) part.in_room (omega arith) ∙ C.same;
           in_text_lem = omega arith;
           in_room = omega arith;
@@ -97,6 +94,5 @@ module _ (t l o₀ o : List ℕ) (n next done i : ℕ) (C : Cutting t l o₀ o n
 
   pub cutting_all : n ≤ i → (x : List ℕ) → o ≡ over (cut_of (steps_of n l x) t) o₀
   cutting_all h x =
-      let j = C.upto in
       let z : n - i ≡ 0 = omega arith in
       slot_last o (cuts_by (n - i) (drop (5 * i) l) (drop next t)) (over (cuts_by n l t) o₀) done (cut_by (n - i) (drop (5 * i) l)) (none_cut (n - i) (drop (5 * i) l) z) C.rest ∙ ap (λ (w : List ℕ). over w o₀) (sym (cut_by_lem n l x t))

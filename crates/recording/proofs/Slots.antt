@@ -1,6 +1,6 @@
 -- A slice filled from the front: at each turn what is still to come, pasted behind what stands there, gives the whole.
 use mathlib.Core.Path.{◌≡◌, refl, sym, ap, ◌∙◌}
-use mathlib.Core.List.{List, [], ◌∷◌, ◌++◌, append_assoc}
+use mathlib.Core.List.{List, ◌∷◌, ◌++◌, append_assoc}
 use Prim.Native.Nat.{ℕ, suc, ◌+◌, ◌-◌, ◌≤◌, ◌<◌}
 use native.Mathlib.Nat.{sub-zero}
 use native.Mathlib.Numerals.{add-one}
@@ -39,25 +39,21 @@ part-next out out' p q w at m k e f h u v =
 -- ---- a list written item by item: w is the whole, r what is still to come after i of n items
 
 pub record Listing (w r o₀ o : List ℕ) (n i : ℕ) : Type 0 where
-  pub upto : i ≤ n
   pub same : length o ≡ length o₀
   pub rest : paste o i r (n - i) ≡ over w o₀
 
 pub listing_none : (w r o : List ℕ) (n : ℕ) → length w ≡ n → r ≡ w → Listing w r o o n 0
-listing_none w r o n e q = record { upto = omega arith; same = refl; rest = rw (sub-zero, q) (slot_first o w n e) }
+listing_none w r o n e q = record { same = refl; rest = rw (sub-zero, q) (slot_first o w n e) }
 
 pub listing_next : (w r s o₀ o : List ℕ) (n i v : ℕ) → Listing w r o₀ o n i → i < n → n ≤ length o₀ → r ≡ v ∷ s → Listing w s o₀ (set o i v) n (i + 1)
 listing_next w r s o₀ o n i v L h k e =
     let q = L.same in
-    record { upto = omega arith; same = length-set o i v ∙ q; rest = slot_next o r s (over w o₀) i n v h (omega arith) e L.rest }
+    record { same = length-set o i v ∙ q; rest = slot_next o r s (over w o₀) i n v h (omega arith) e L.rest }
 
 pub listing_all : (w r o₀ o x : List ℕ) (n i : ℕ) → Listing w r o₀ o n i → n ≤ i → x ≡ w → o ≡ over x o₀
-listing_all w r o₀ o x n i L h e = let u = L.upto in slot_last o r (over w o₀) i (n - i) (omega arith) L.rest ∙ ap (λ (y : List ℕ). over y o₀) (sym e)
+listing_all w r o₀ o x n i L h e = slot_last o r (over w o₀) i (n - i) (omega arith) L.rest ∙ ap (λ (y : List ℕ). over y o₀) (sym e)
 
 -- ---- zeros behind a list
-
-pub zeros_none : (o : List ℕ) (from to : ℕ) → to ≤ from → o ≡ paste o from (replicate (to - from) 0) (to - from)
-zeros_none o from to h = let z : to - from ≡ 0 = omega arith in rw z (paste-zero o from [])
 
 pub zeros_up : (p o o₁ o₂ : List ℕ) (n count : ℕ) → length p ≡ n → o₁ ≡ over p o → o₂ ≡ paste o₁ n (replicate (count - n) 0) (count - n) → o₂ ≡ over (filled_up count p) o
 zeros_up p o o₁ o₂ n count e q r = r ∙ rw (q, paste-behind p (replicate (count - n) 0) o n (count - n) e (length-replicate (count - n) 0), e)

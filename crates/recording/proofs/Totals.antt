@@ -33,7 +33,6 @@ brought-is v n k m y e f = omega (arith, last_append is_lf (replicate n v) y)
 -- ---- the sums after i steps, which pass over `next` of t and `taken` of x; the bounds are those of numbers of 32 bits
 
 pub record Totals (t l x : List ℕ) (n v laid cut going coming next taken i : ℕ) : Type 0 where
-  pub upto : i ≤ n
   pub laid-few : laid ≤ 12_884_901_888 * i
   pub cut_few : cut ≤ 4_294_967_296 * i
   pub going_few : going ≤ next
@@ -54,7 +53,6 @@ totals_none t l x n v =
     let e = whole-left (λ (m : ℕ) (s : List ℕ). breaks_gone is_lf (steps_of m s x) t) l n in
     let f = whole-left (λ (m : ℕ) (s : List ℕ). breaks_come is_lf v (steps_of m s x)) l n in
     record {
-      upto = omega arith;
       laid-few = omega arith;
       cut_few = omega arith;
       going_few = omega arith;
@@ -117,7 +115,6 @@ module _ (t l x : List ℕ) (n v laid cut going coming next taken i : ℕ) (T : 
         let gl = gone_few t (next + s.keep) s.gone g eg in
         let cl = come_few x v s.pad taken s.come c ec in
         record {
-          upto = omega arith;
           laid-few = omega arith;
           cut_few = omega arith;
           going_few = omega arith;

@@ -1,8 +1,8 @@
 -- Steps in a slice, one after another: at turn i of n what is left is n - i steps, from 5 * i on.
 use mathlib.Core.Path.{◌≡◌, refl, sym, ap, ◌∙◌}
 use mathlib.Core.List.{List, [], ◌∷◌, ◌++◌, map}
-use Prim.Native.Nat.{ℕ, zero, suc, ◌+◌, ◌-◌, ◌*◌, ◌≤◌, ◌<◌, max}
-use native.Mathlib.Nat.{add-zero, sub-zero}
+use Prim.Native.Nat.{ℕ, zero, suc, ◌+◌, ◌-◌, ◌*◌, ◌≤◌, ◌<◌}
+use native.Mathlib.Nat.{sub-zero}
 use native.Mathlib.Omega.{arith}
 use lib.ListN.{length, take, drop, get_or, replicate, length-drop}
 use lib.Seq.{drop-drop, get_or-drop, length-take-le}
@@ -77,12 +77,6 @@ cuts_long n l t h = ap length (sym (cut_by_lem n l [] t)) ∙ cut_of_lem n l [] 
 
 -- ---- the step at i, and those behind it
 
-pub five_is : (l : List ℕ) (i k g p c o m : ℕ) → k ≡ get_or l (5 * i) 0 → g ≡ get_or l (5 * i + 1) 0 → p ≡ get_or l (5 * i + 2) 0 → c ≡ get_or l (5 * i + 3) 0 → o ≡ get_or l (5 * i + 4) 0 → m ≡ max g o
-    → ◌≡◌ {A = Five} (record { keep = k; gone = g; pad = p; come = c; back = m - o }) (five_at l i)
-five_is l i k g p c o m ek eg ep ec eo em =
-    let b : m - o ≡ g - o = omega arith in
-    rw (b, get_or-drop (5 * i) l 0 0, add-zero, get_or-drop (5 * i) l 1 0, get_or-drop (5 * i) l 2 0, get_or-drop (5 * i) l 3 0, get_or-drop (5 * i) l 4 0, ek, eg, ep, ec, eo)
-
 module _ (l : List ℕ) (n i : ℕ) (h : i < n) where
   abbrev m : ℕ
   m = n - (i + 1)
@@ -124,9 +118,9 @@ module _ (l : List ℕ) (n i : ℕ) (h : i < n) where
     unfolding back_by
     back_next = rw (e, one_less, five_on)
 
-    pub columns-next : (start k v : ℕ) → v ≡ max (k + s.keep) start → columns_by start k (n - i) (drop (5 * i) l) ≡ (v - start) ∷ columns_by start (k + s.keep + s.pad + s.come) m (drop (5 * (i + 1)) l)
+    pub columns-next : (start k v : ℕ) → v ≡ k + s.keep - start → columns_by start k (n - i) (drop (5 * i) l) ≡ v ∷ columns_by start (k + s.keep + s.pad + s.come) m (drop (5 * (i + 1)) l)
     unfolding columns_by
-    columns-next start k v q = let d : v - start ≡ k + s.keep - start = omega arith in rw (d, e, one_less, five_on)
+    columns-next start k v q = rw (q, e, one_less, five_on)
 
     pub back_less : s.back ≤ s.gone
     back_less = let b : s.back ≡ s.gone - get_or (drop (5 * i) l) 4 0 = rw e in omega arith

@@ -14,8 +14,7 @@ ghost use Rattle.steps.specs.Numbers.{steps_of, passed_by, laid_by, come_by, cut
 ghost use Rattle.recording.specs.Recorded.{five_at, sums_of, filled_up, columns, first_by, second_by, first_long, second_long};
 
 use edit::{Edit, MotionKind, extent};
-use splice::{copy_in, fill};
-use text::{CharOffset, LF};
+use text::LF;
 
 // A step's numbers; `back` is how many of those that go an inverse gives back.
 #[derive(Clone, Copy)]
@@ -36,26 +35,20 @@ pub struct Sums {
     pub breaks_come: usize,
 }
 
-fn wide(number: u32) -> usize
-    ensures { (result ≡ number) × (result < 4_294_967_296) }
-{
-    number as usize
-}
-
 fn five_at(steps: &[u32], i: usize) -> Five
     requires { 5 * i + 5 ≤ length steps.now }
     ensures small { (result.pad < 4_294_967_296) × (result.come < 4_294_967_296) × (result.back < 4_294_967_296) }
     ensures five { result ≡ five_at steps.now i }
 {
     let at = 5 * i;
-    let gone = wide(steps[at + 1]);
-    let lost = wide(steps[at + 4]);
+    let gone = steps[at + 1] as usize;
+    let lost = steps[at + 4] as usize;
     Five {
-        keep: wide(steps[at]),
+        keep: steps[at] as usize,
         gone,
-        pad: wide(steps[at + 2]),
-        come: wide(steps[at + 3]),
-        back: CharOffset(gone).max(CharOffset(lost)).0 - lost,
+        pad: steps[at + 2] as usize,
+        come: steps[at + 3] as usize,
+        back: gone.saturating_sub(lost),
     }
 }
 
@@ -63,13 +56,12 @@ fn five_at(steps: &[u32], i: usize) -> Five
 fn breaks_in(part: &[u32]) -> usize
     ensures { result ≡ last_row is_lf part.now }
 {
+    // Not `filter` and `count`, which are not vectorised.
     let mut count = 0;
-    let mut i = 0;
-    while i < part.len() {
-        if part[i] == LF {
+    for x in part {
+        if *x == LF {
             count += 1;
         }
-        i += 1;
     }
     count
 }
@@ -102,8 +94,7 @@ pub fn sum_steps(text: &[u32], steps: &[u32], n: usize, made: u32, payload: &[u3
     let mut coming = 0;
     let mut next = 0;
     let mut taken = 0;
-    let mut i = 0;
-    while i < n {
+    for i in 0..n {
         let s = five_at(steps, i);
         let from = next + s.keep;
         let to = from + s.gone;
@@ -114,7 +105,6 @@ pub fn sum_steps(text: &[u32], steps: &[u32], n: usize, made: u32, payload: &[u3
         coming += brought_breaks(made, s.pad, &payload[taken..till]);
         next = to;
         taken = till;
-        i += 1;
     }
     Sums {
         used: laid + (text.len() - next),
@@ -131,15 +121,14 @@ pub fn record_cut(text: &[u32], steps: &[u32], n: usize, out: &mut [u32])
 {
     let mut next = 0;
     let mut done = 0;
-    let mut i = 0;
-    while i < n {
+    for i in 0..n {
         let s = five_at(steps, i);
         let end = next + s.keep + s.gone;
         let start = end - s.back;
-        copy_in(out, CharOffset(done), &text[start..end]);
+        let till = done + s.back;
+        out[done..till].copy_from_slice(&text[start..end]);
         next = end;
-        done += s.back;
-        i += 1;
+        done = till;
     }
 }
 
@@ -148,10 +137,8 @@ fn record_pads(steps: &[u32], n: usize, out: &mut [u32])
     requires { (5 * n ≤ length steps.now) × (n ≤ length out.old) }
     ensures { (x : List ℕ) → out.new ≡ over (padded (steps_of n steps.now x)) out.old }
 {
-    let mut i = 0;
-    while i < n {
+    for i in 0..n {
         out[i] = steps[5 * i + 2];
-        i += 1;
     }
 }
 
@@ -160,11 +147,9 @@ fn record_lengths(steps: &[u32], n: usize, out: &mut [u32])
     requires { (5 * n ≤ length steps.now) × (n ≤ length out.old) }
     ensures { (x : List ℕ) → out.new ≡ over (given_back (steps_of n steps.now x)) out.old }
 {
-    let mut i = 0;
-    while i < n {
+    for i in 0..n {
         let s = five_at(steps, i);
         out[i] = s.back as u32;
-        i += 1;
     }
 }
 
@@ -174,13 +159,11 @@ fn record_places(steps: &[u32], n: usize, start: usize, out: &mut [u32])
     ensures { (x : List ℕ) → come_by n steps.now ≤ length x → out.new ≡ over (columns start (steps_of n steps.now x)) out.old }
 {
     let mut at = 0;
-    let mut i = 0;
-    while i < n {
+    for i in 0..n {
         let s = five_at(steps, i);
         let place = at + s.keep;
-        out[i] = (CharOffset(place).max(CharOffset(start)).0 - start) as u32;
+        out[i] = place.saturating_sub(start) as u32;
         at = place + s.pad + s.come;
-        i += 1;
     }
 }
 
@@ -190,7 +173,7 @@ fn zeros(out: &mut [u32], from: usize, to: usize)
     ensures { out.new ≡ paste out.old from (replicate (to - from) 0) (to - from) }
 {
     if from < to {
-        fill(out, CharOffset(from), to - from, 0);
+        out[from..to].fill(0);
     }
 }
 
@@ -222,7 +205,7 @@ fn record_first(edit: Edit, steps: &[u32], n: usize, start: usize, first: &[u32]
         Edit::JoinLines { .. } => record_places(steps, n, start, out),
         Edit::SplitLines { .. } => {}
         Edit::Replace { .. } => {}
-        Edit::InsertBlock { .. } => copy_in(out, CharOffset(0), first),
+        Edit::InsertBlock { .. } => out[..first.len()].copy_from_slice(first),
         Edit::DeleteBlockChunks { .. } => record_chunks(steps, n, first.len(), out),
     }
 }

@@ -27,7 +27,7 @@ use text::{CharOffset, Col, LF, Position, Row};
 pub fn most_joins(count: u32) -> usize
     ensures { result ≡ min (max count 1) 256 }
 {
-    Col(count).max(Col(1)).min(Col(256)).0 as usize
+    count.max(1).min(256) as usize
 }
 
 pub fn resolve_join(text: &[u32], row: Row, count: u32, spaced: bool, steps: &mut [u32]) -> Resolved
@@ -58,14 +58,7 @@ pub fn resolve_join(text: &[u32], row: Row, count: u32, spaced: bool, steps: &mu
 fn any_flag(flags: &[u32]) -> bool
     ensures { result ≡ any_flag flags.now }
 {
-    let mut i = 0;
-    while i < flags.len() {
-        if flags[i] != 0 {
-            return true;
-        }
-        i += 1;
-    }
-    false
+    flags.iter().any(|flag| *flag != 0)
 }
 
 pub fn resolve_split(

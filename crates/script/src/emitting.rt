@@ -9,13 +9,11 @@ fn emit(part: &[u8], out: &mut [u8], at: usize, keep: bool)
     requires { at + length part.now ≤ length out.old }
     ensures { out.new ≡ cond keep (paste out.old at part.now (length part.now)) out.old }
 {
-    if !keep {
-        return;
-    }
-    let mut i = 0;
-    while i < part.len() {
-        out[at + i] = part[i];
-        i += 1;
+    if keep {
+        // Not `copy_from_slice`: it calls memmove, and the archive calls memcpy and memset alone.
+        for (i, byte) in part.iter().enumerate() {
+            out[at + i] = *byte;
+        }
     }
 }
 

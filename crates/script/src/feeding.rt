@@ -37,6 +37,7 @@ pub fn feed_all(
     let mut pending = 0;
     let mut printed = 0;
     let mut at = 0;
+    // A cursor: each turn moves it by what the feeder took.
     while at < input.len() {
         let course = feed(current, pending, line, &input[at..], text, marks, room);
         let size = course.printed;

@@ -49,6 +49,7 @@ fn take_bytes(
     let mut pending = stand.pending;
     let mut sound = stand.sound;
     let mut at = 0;
+    // A cursor: each turn moves it by what the feeder took.
     while at < bytes.len() {
         let course = feed(current, pending, line, &bytes[at..], text, marks, out);
         let size = course.printed;
@@ -147,7 +148,7 @@ fn read_some(
     take_read(streams, stand, got, input, line, text, marks, out)
 }
 
-// All of the input. A proved loop has to end, so it counts its turns down from a number that no input uses up.
+// All of the input. A proved loop has to end, so this one has a number of turns that no input uses up.
 fn read_all(
     streams: Streams,
     stand: Stand,
@@ -164,13 +165,11 @@ fn read_all(
     ensures open_value { result.open ≡ false }
 {
     let mut read = stand;
-    let mut turns = u64::MAX;
-    while turns > 0 {
+    for _ in 0..u64::MAX {
         if !read.open {
             return read;
         }
         read = read_some(streams, read, input, line, text, marks, out);
-        turns -= 1;
     }
     fail_reading(streams, read, io::Error::from(ErrorKind::TimedOut))
 }

@@ -47,12 +47,11 @@ fn write_some(streams: Streams, bytes: &[u8]) -> io::Result<usize>
     }
 }
 
-// Writes all of them, and answers whether that went well. The loop counts its turns down, as that of `read_all` does.
+// Writes all of them, and answers whether that went well. The loop has as many turns as that of `read_all`.
 fn write_on(streams: Streams, bytes: &[u8]) -> bool {
     let mut done = 0;
     let mut failure = io::Error::from(ErrorKind::TimedOut);
-    let mut turns = u64::MAX;
-    while turns > 0 {
+    for _ in 0..u64::MAX {
         if bytes.len() <= done {
             return true;
         }
@@ -63,7 +62,6 @@ fn write_on(streams: Streams, bytes: &[u8]) -> bool {
                 break;
             }
         }
-        turns -= 1;
     }
     fail(streams, "standard output", failure);
     false

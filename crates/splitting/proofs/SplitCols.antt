@@ -4,8 +4,10 @@ use mathlib.Core.Logic.{◌≢◌}
 use mathlib.Core.Bool.{Bool, true, false, cond, not, ◌&&◌, ◌||◌}
 use mathlib.Core.List.{List, [], ◌∷◌}
 use Prim.Native.Nat.{ℕ, zero, suc, ◌+◌, ◌-◌, ◌*◌, ◌≤◌, ◌<◌, min}
+use native.Mathlib.Decide.{dec_le}
 use native.Mathlib.Omega.{arith}
-use lib.Dec.{eqb, leb, eqb-suc-zero}
+use borrow.Author.Tests.{le-ltb, lt-ltb}
+use lib.Dec.{eqb, leb, ltb, eqb-suc-zero}
 use lib.ListN.{length, take, drop, get_or, set, length-take, length-drop, drop_of_length-le}
 use lib.Seq.{drop-cons, drop-set-add, get_or-take, drop_at, length-take-le}
 use Rattle.promise.proofs.Lists.{first_from, tail_whole, tail_back}
@@ -17,7 +19,7 @@ use Rattle.steps.specs.Steps.{Step, step, ahead}
 use Rattle.steps.specs.Numbers.{steps_of, come_by}
 use Rattle.steps.specs.Kinds.{first_at, behind, split_steps}
 use Rattle.steps.proofs.Splits.{split-is}
-use Rattle.building.proofs.Fives.{less, skip_one, ahead_none, behind_five, no_steps, none_come, come_set}
+use Rattle.building.proofs.Fives.{skip_one, ahead_none, behind_five, no_steps, none_come, come_set}
 
 abbrev cuts : List ℕ → List ℕ → List ℕ → List (Step ℕ)
 cuts b cs fs = split_steps is_lf is_space spaces b cs fs
@@ -40,37 +42,35 @@ gone_cons (suc f) x z r e = rw (e, eqb-suc-zero f) (go (eqb x 32))
     go false = omega arith
 
 module _ (b : List ℕ) (c e f : ℕ) (k : e ≤ length b) where
-  pub gone_past : e ≤ c → 0 ≡ gone_of f (drop c (take e b))
+  gone_past : e ≤ c → 0 ≡ gone_of f (drop c (take e b))
   gone_past h = gone_none (drop c (take e b)) f (drop_of_length-le (take e b) {i = c} (omega (arith, length-take e b)))
 
   module _ (h : c < e) where
     here : drop c (take e b) ≡ get_or b c 0 ∷ drop (suc c) (take e b)
     here = rw (← get_or-take e b c 0 h) (drop-cons (take e b) c 0 (omega (arith, length-take-le e b k)))
 
-    pub gone_space : (not (eqb f 0) && eqb (get_or b c 0) 32) ≡ true → 1 ≡ gone_of f (drop c (take e b))
-    gone_space q = ap (λ (t : Bool). cond t 1 0) (sym q) ∙ gone_cons f (get_or b c 0) (drop c (take e b)) (drop (suc c) (take e b)) here
+    gone_here : cond (not (eqb f 0) && eqb (get_or b c 0) 32) 1 0 ≡ gone_of f (drop c (take e b))
+    gone_here = gone_cons f (get_or b c 0) (drop c (take e b)) (drop (suc c) (take e b)) here
 
-    pub gone_plain : (not (eqb f 0) && eqb (get_or b c 0) 32) ≡ false → 0 ≡ gone_of f (drop c (take e b))
-    gone_plain q = ap (λ (t : Bool). cond t 1 0) (sym q) ∙ gone_cons f (get_or b c 0) (drop c (take e b)) (drop (suc c) (take e b)) here
+  pub gone-is : (v : ℕ) → v ≡ cond (ltb c e && (not (eqb f 0) && eqb (get_or b c 0) 32)) 1 0 → v ≡ gone_of f (drop c (take e b))
+  gone-is v q = elim (dec_le (suc c) e) [ yes h ↦ q ∙ rw (lt-ltb c e h) (gone_here h) | no h ↦ q ∙ rw (le-ltb c e (omega arith)) (gone_past (omega arith)) ]
 
 -- ---- the steps after so many characters
 
-lowered_first : (l : List ℕ) (k by m : ℕ) → m ≡ min by (get_or l 0 0) → (x : List ℕ) → 5 * k ≤ length l → steps_of k (set l 0 (get_or l 0 0 - m)) x ≡ behind by (steps_of k l x)
+lowered_first : (l : List ℕ) (k by : ℕ) → (x : List ℕ) → 5 * k ≤ length l → steps_of k (set l 0 (get_or l 0 0 - by)) x ≡ behind by (steps_of k l x)
 unfolding steps_of behind
-lowered_first l zero by m e x h = refl
-lowered_first [] (suc k) by m e x h = absurd (omega arith)
-lowered_first (a ∷ l) (suc k) by m e x h = rw (less a by m e)
+lowered_first l zero by x h = refl
+lowered_first [] (suc k) by x h = absurd (omega arith)
+lowered_first (a ∷ l) (suc k) by x h = refl
 
 -- what `lower` promises of n steps, where r stands behind the first of them, and r₁ once they are lowered
 abbrev pub Lowered : ℕ → ℕ → List ℕ → List ℕ → Type 0
 Lowered n by r r₁ = (come_by (n - 1) r₁ ≡ come_by (n - 1) r) × ((x : List ℕ) → steps_of (n - 1) r₁ x ≡ behind by (steps_of (n - 1) r x))
 
-pub lowered : (l : List ℕ) (n by m : ℕ) → 1 < n → 5 * n ≤ length l → m ≡ min by (get_or l 5 0) → Lowered n by (drop 5 l) (drop 5 (set l 5 (get_or l 5 0 - m)))
+pub lowered : (l : List ℕ) (n by m : ℕ) → 1 < n → 5 * n ≤ length l → m ≡ get_or l 5 0 - by → Lowered n by (drop 5 l) (drop 5 (set l 5 m))
 lowered l n by m h j e =
-    let f = first_from l 5 in
-    let s : drop 5 (set l 5 (get_or l 5 0 - m)) ≡ set (drop 5 l) 0 (get_or (drop 5 l) 0 0 - m) = drop-set-add 5 l 0 (get_or l 5 0 - m) ∙ ap (λ (v : ℕ). set (drop 5 l) 0 (v - m)) (sym f) in
-    let d : m ≡ min by (get_or (drop 5 l) 0 0) = rw f e in
-    (ap (come_by (n - 1)) s ∙ come_set (drop 5 l) (n - 1) _, λ x. ap (λ (v : List ℕ). steps_of (n - 1) v x) s ∙ lowered_first (drop 5 l) (n - 1) by m d x (omega (arith, length-drop 5 l)))
+    let s : drop 5 (set l 5 m) ≡ set (drop 5 l) 0 (get_or (drop 5 l) 0 0 - by) = drop-set-add 5 l 0 m ∙ ap (set (drop 5 l) 0) (rw (first_from l 5) e) in
+    (ap (come_by (n - 1)) s ∙ come_set (drop 5 l) (n - 1) _, λ x. ap (λ (v : List ℕ). steps_of (n - 1) v x) s ∙ lowered_first (drop 5 l) (n - 1) by x (omega (arith, length-drop 5 l)))
 
 pub lowered_none : (l : List ℕ) (n by : ℕ) → n ≤ 1 → Lowered n by (drop 5 l) (drop 5 l)
 unfolding steps_of behind

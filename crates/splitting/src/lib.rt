@@ -16,7 +16,6 @@ ghost use Rattle.steps.specs.Kinds.{first_at, behind, split_steps};
 use building::{first_of, one_of};
 use splice::SPACE;
 use steps::put_step;
-use text::Col;
 
 // Where the first break of a split row stands, and whether every column with a flag is within its row.
 #[derive(Clone, Copy)]
@@ -31,12 +30,7 @@ fn split_gone(row: &[u32], col: u32, end: u32, flag: u32) -> u32
     ensures few { result ≤ 1 }
     ensures value { result ≡ length (drop col (take end row.now)) - length (unspace is_lf is_space spaces flag (drop col (take end row.now))) }
 {
-    if col < end {
-        if (flag != 0) & (row[col as usize] == SPACE) {
-            return 1;
-        }
-    }
-    0
+    u32::from(col < end && flag != 0 && row[col as usize] == SPACE)
 }
 
 // Of `n` steps those behind the first, after so many characters.
@@ -46,8 +40,7 @@ fn lower(steps: &mut [u32], n: usize, by: u32)
     ensures by_index { (x : List ℕ) → steps_of (n - 1) (drop 5 steps.new) x ≡ behind by (steps_of (n - 1) (drop 5 steps.old) x) }
 {
     if 1 < n {
-        let keep = steps[5];
-        steps[5] = keep - Col(by).min(Col(keep)).0;
+        steps[5] = steps[5].saturating_sub(by);
     }
 }
 
@@ -78,7 +71,7 @@ pub fn split_steps(
     let end = rest.first;
     let col = cols[0];
     let flag = first_of(flags);
-    let at = Col(col).min(Col(end)).0;
+    let at = col.min(end);
     let gone = split_gone(row, col, end, flag);
     lower(steps, n, at + gone);
     put_step(steps, carry + at, gone, 1, 0, gone);

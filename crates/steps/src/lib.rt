@@ -29,9 +29,5 @@ pub fn put_step(steps: &mut [u32], keep: u32, gone: u32, pad: u32, come: u32, lo
     requires { 5 ≤ length steps.old }
     ensures { steps.new ≡ keep ∷ gone ∷ pad ∷ come ∷ lost ∷ drop 5 steps.old }
 {
-    steps[0] = keep;
-    steps[1] = gone;
-    steps[2] = pad;
-    steps[3] = come;
-    steps[4] = lost;
+    steps[..5].copy_from_slice(&[keep, gone, pad, come, lost]);
 }

@@ -3,28 +3,17 @@ use mathlib.Core.Path.{◌≡◌, sym, ap, ◌∙◌}
 use mathlib.Core.List.{List, ◌++◌, append_assoc}
 use Prim.Native.Nat.{ℕ, ◌+◌, ◌-◌, ◌≤◌, min, max}
 use native.Mathlib.Omega.{arith}
+use borrow.Rule.Slice.PartMut.{put_mid}
 use lib.ListN.{length, take, drop, replicate, length-append, length-take, length-drop, length-replicate, take-append-drop}
-use lib.Seq.{paste, slice, drop_at, take_all, take-take, drop-drop, take-add, take-append-le, take-append-add, take-paste, drop-paste, length-take-le}
-use Rattle.promise.proofs.Lists.{drop-take, tail_whole, tail_back, paste-both}
+use lib.Seq.{paste, slice, drop_at, take_all, take-take, drop-drop, take-append-le, take-append-add, take-paste, drop-paste, length-take-le}
+use Rattle.std.proofs.lemmas.Slice.{put_mid-paste}
+use Rattle.promise.proofs.Lists.{drop-take, paste-both}
 
-module _ (b y : List ℕ) (from to count : ℕ) where
-  pub piece_down : to ≤ from → y ≡ take count (drop (from - to) (take (length b - to) (drop to b))) ++ drop count (take (length b - to) (drop to b))
-      → take to b ++ (y ++ drop (length b - to) (drop to b)) ≡ paste b to (drop from b) count
-  piece_down h e =
-      let m : to + (from - to) ≡ from = omega arith in
-      tail_back b y to ∙ rw (e, tail_whole b to, drop-drop (from - to) to b, drop-drop count to b, m) (sym (append_assoc (take to b) (take count (drop from b)) (drop (to + count) b)))
-
-  pub piece_up : from ≤ to → y ≡ paste (take (length b - from) (drop from b)) (to - from) (take (length b - from) (drop from b)) count
-      → take from b ++ (y ++ drop (length b - from) (drop from b)) ≡ paste b to (drop from b) count
-  piece_up h e =
-      let by = to - from in
-      let m : from + by ≡ to = omega arith in
-      let n : from + (by + count) ≡ to + count = omega arith in
-      let f : take to b ≡ take from b ++ take by (drop from b) = ap (λ (k : ℕ). take k b) (sym m) ∙ take-add from by b in
-      tail_back b y from ∙ rw (e, tail_whole b from, drop-drop (by + count) from b, n, f) (simp append_assoc)
-
-  pub piece_same : from ≡ to → b ≡ paste b to (drop from b) count
-  piece_same e = rw (e, ← take-add to count b) (sym (take-append-drop (to + count) b))
+-- a part from a to e, n long, filled with v
+pub part-filled : (b y : List ℕ) (a e n v : ℕ) → a + n ≡ e → e ≤ length b → y ≡ replicate (length (take (e - a) (drop a b))) v → put_mid a (e - a) b y ≡ paste b a (replicate n v) n
+part-filled b y a e n v h k q =
+    let l : length (take (e - a) (drop a b)) ≡ n = length-take (e - a) (drop a b) ∙ omega (arith, length-drop a b) in
+    put_mid-paste a (e - a) b y (replicate n v) n (q ∙ ap (λ (j : ℕ). replicate j v) l) (omega arith) (sym (length-replicate {A = ℕ} n v))
 
 pub laid-over : (b f t x : List ℕ) (v at pad : ℕ) → at + (pad + length x) ≤ length b → f ≡ paste b at (replicate pad v) pad → t ≡ paste f (at + pad) x (length x)
     → t ≡ paste b at (replicate pad v ++ x) (pad + length x)

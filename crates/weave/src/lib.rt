@@ -10,21 +10,12 @@ ghost use Rattle.text.specs.Text.{renewed};
 ghost use Rattle.steps.specs.Steps.{woven};
 ghost use Rattle.steps.specs.Numbers.{steps_of, passed_by, come_by, size_by, woven_from};
 
-use splice::{copy_in, fill, shift_down, shift_up};
-use text::CharOffset;
-
 // Moves the `count` places from `from` on to `to`.
 fn move_piece(text: &mut [u32], from: usize, to: usize, count: usize)
     requires { (from + count ≤ length text.old) × (to + count ≤ length text.old) }
     ensures { text.new ≡ paste text.old to (drop from text.old) count }
 {
-    if to < from {
-        shift_down(&mut text[to..], count, from - to);
-        return;
-    }
-    if from < to {
-        shift_up(&mut text[from..], count, to - from);
-    }
+    text.copy_within(from..from + count, to);
 }
 
 // Puts `value` so many times, and then the payload, over what stands from `at` on.
@@ -32,8 +23,9 @@ fn lay(text: &mut [u32], at: usize, pad: usize, value: u32, payload: &[u32])
     requires { at + (pad + length payload.now) ≤ length text.old }
     ensures { text.new ≡ paste text.old at (replicate pad value ++ payload.now) (pad + length payload.now) }
 {
-    fill(text, CharOffset(at), pad, value);
-    copy_in(text, CharOffset(at + pad), payload);
+    let after = at + pad;
+    text[at..after].fill(value);
+    text[after..after + payload.len()].copy_from_slice(payload);
 }
 
 // Weaves what stands from `from` up to `used`, to the places from `to` on. A piece that goes down is moved before those behind it,
@@ -94,6 +86,6 @@ pub fn commit(
 {
     weave(text, used, 0, 0, steps, n, value, payload);
     if size < used {
-        fill(text, CharOffset(size), used - size, 0);
+        text[size..used].fill(0);
     }
 }

@@ -1,11 +1,7 @@
 use mathlib.Core.Path.{◌≡◌}
-use Prim.Native.Nat.{◌≤◌, ◌-◌}
 use lib.ListN.{length}
 use lib.Seq.{paste}
 use Rattle.feed.proofs.hold.Given as goal
 
 abbrev pub invariant-loop-i : goal.invariant-loop-i
-invariant-loop-i l = (l.i ≤ l.count) × (length l.line ≡ length l.initial.line) × (l.line ≡ paste l.initial.line l.pending l.bytes l.i)
-
-abbrev pub decreases-loop-i : goal.decreases-loop-i
-decreases-loop-i l = l.count - l.i
+invariant-loop-i l = (length l.line ≡ length l.initial.line) × (l.line ≡ paste l.initial.line l.pending l.bytes l.i)

@@ -1,5 +1,4 @@
 use mathlib.Core.Path.{◌≡◌}
-use Prim.Native.Nat.{◌-◌}
 use lib.ListN.{length}
 use Rattle.marking.specs.FlatMarks.{marks_in}
 use Rattle.marking.specs.Carries.{carried_mark}
@@ -8,6 +7,3 @@ use Rattle.marking.proofs.carry_marks.Given as goal
 
 abbrev pub invariant-loop-i : goal.invariant-loop-i
 invariant-loop-i l = (length l.marks ≡ 320) × Carried (carried_mark l.text l.edit l.payload l.first) (marks_in l.count l.initial.marks) (behind l.count l.initial.marks) l.i l.marks
-
-abbrev pub decreases-loop-i : goal.decreases-loop-i
-decreases-loop-i l = l.count - l.i

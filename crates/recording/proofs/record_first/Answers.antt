@@ -1,6 +1,5 @@
-use mathlib.Core.Path.{◌∙◌}
 use native.Mathlib.Omega.{arith}
-use Rattle.splice.proofs.Overs.{paste-over}
+use lib.ListN.{length-take}
 use Rattle.recording.specs.Recorded.{first_by, first_by_range, first_long, first_long_of_range}
 use Rattle.recording.proofs.record_first.Goals as goal
 
@@ -12,9 +11,17 @@ pub record_places-requires : goal.record_places-requires
 unfolding first_long
 record_places-requires c = let h = rw c.in-JoinLines.is at c.requires.2 in (c.requires.0, h, c.requires.1)
 
-pub copy_in-requires : goal.copy_in-requires
+pub slice_bounds-copy_from_slice-end : goal.slice_bounds-copy_from_slice-end
 unfolding first_long
-copy_in-requires c = let h = rw c.in-InsertBlock.is at c.requires.2 in omega arith
+slice_bounds-copy_from_slice-end c = let h = rw c.in-InsertBlock.is at c.requires.2 in omega arith
+
+pub slice_bounds-copy_from_slice-end-in-InsertBlock : goal.slice_bounds-copy_from_slice-end-in-InsertBlock
+unfolding first_long
+slice_bounds-copy_from_slice-end-in-InsertBlock c = let h = rw c.in-InsertBlock.is at c.requires.2 in simp length-take (omega arith)
+
+pub copy_from_slice-requires : goal.copy_from_slice-requires
+unfolding first_long
+copy_from_slice-requires c = let h = rw c.in-InsertBlock.is at c.requires.2 in simp length-take (omega arith)
 
 pub record_chunks-requires-in-DeleteBlockChunks : goal.record_chunks-requires-in-DeleteBlockChunks
 unfolding first_long
@@ -54,7 +61,7 @@ returns-in-Replace c = λ x h. rw c.in-Replace.is
 
 pub returns-in-InsertBlock : goal.returns-in-InsertBlock
 unfolding first_by
-returns-in-InsertBlock c = λ x h. let a = c.args in rw c.in-InsertBlock.is (c.copy_in.ensures ∙ paste-over a.out.now a.first.now)
+returns-in-InsertBlock c = λ x h. rw (c.in-InsertBlock.is, c.copy_from_slice.ensures.after)
 
 pub returns-in-DeleteBlockChunks : goal.returns-in-DeleteBlockChunks
 unfolding first_by

@@ -6,6 +6,3 @@ use Rattle.recording.proofs.record_pads.Given as goal
 
 abbrev pub invariant-loop-i : goal.invariant-loop-i
 invariant-loop-i l = Listing (pads_by l.n l.steps) (pads_by (l.n - l.i) (drop (5 * l.i) l.steps)) l.initial.out l.out l.n l.i
-
-abbrev pub decreases-loop-i : goal.decreases-loop-i
-decreases-loop-i l = l.n - l.i

@@ -13,7 +13,7 @@ pub overflow_add-place : goal.overflow_add-place
 overflow_add-place c = let a = c.args in let l = c.loop-i in omega (arith, laid_next a.steps.now a.n l.i c.loop-i-test.true c.five_at-s.result c.five_at-s.ensures.five)
 
 pub overflow_cast-out : goal.overflow_cast-out
-overflow_cast-out c = let a = c.args in let l = c.loop-i in let m = c.max.ensures in omega (arith, laid_next a.steps.now a.n l.i c.loop-i-test.true c.five_at-s.result c.five_at-s.ensures.five)
+overflow_cast-out c = let a = c.args in let l = c.loop-i in omega (arith, laid_next a.steps.now a.n l.i c.loop-i-test.true c.five_at-s.result c.five_at-s.ensures.five)
 
 pub overflow_add-at : goal.overflow_add-at
 overflow_add-at c = let a = c.args in let l = c.loop-i in omega (arith, laid_next a.steps.now a.n l.i c.loop-i-test.true c.five_at-s.result c.five_at-s.ensures.five)
@@ -22,7 +22,7 @@ pub overflow_add-at-in-loop-i : goal.overflow_add-at-in-loop-i
 overflow_add-at-in-loop-i c = let a = c.args in let l = c.loop-i in omega (arith, laid_next a.steps.now a.n l.i c.loop-i-test.true c.five_at-s.result c.five_at-s.ensures.five)
 
 pub loop-i-preserved : goal.loop-i-preserved
-loop-i-preserved c = let a = c.args in let l = c.loop-i in (listing_next _ _ (columns_by a.start (l.at + c.five_at-s.result.keep + c.five_at-s.result.pad + c.five_at-s.result.come) (a.n - (l.i + 1)) (drop (5 * (l.i + 1)) a.steps.now)) _ l.out a.n l.i _ l.invariant.0 c.loop-i-test.true c.requires.1 (columns-next a.steps.now a.n l.i c.loop-i-test.true c.five_at-s.result c.five_at-s.ensures.five a.start l.at _ c.max.ensures), omega (arith, laid_next a.steps.now a.n l.i c.loop-i-test.true c.five_at-s.result c.five_at-s.ensures.five))
+loop-i-preserved c = let a = c.args in let l = c.loop-i in (listing_next _ _ (columns_by a.start (l.at + c.five_at-s.result.keep + c.five_at-s.result.pad + c.five_at-s.result.come) (a.n - (l.i + 1)) (drop (5 * (l.i + 1)) a.steps.now)) _ l.out a.n l.i _ l.invariant.0 c.loop-i-test.true c.requires.1 (columns-next a.steps.now a.n l.i c.loop-i-test.true c.five_at-s.result c.five_at-s.ensures.five a.start l.at _ c.saturating_sub.ensures), omega (arith, laid_next a.steps.now a.n l.i c.loop-i-test.true c.five_at-s.result c.five_at-s.ensures.five))
 
 pub returns : goal.returns
 returns c = let a = c.args in let l = c.loop-i in λ x h. listing_all _ _ a.out.now l.out _ a.n l.i l.invariant.0 (omega arith) (columns-by a.start 0 a.n a.steps.now x h)

@@ -65,12 +65,6 @@ brought_breaks-coming-requires c = c.five_at-s.ensures.small.0
 pub overflow_add-coming : goal.overflow_add-coming
 overflow_add-coming c = let l = c.loop-i in let s = c.five_at-s.result in let a = c.args in omega (arith, come_few a.payload.now a.made s.pad l.taken s.come _ c.brought_breaks-coming.ensures, c.five_at-s.ensures.small, l.invariant.coming_few, c.requires.1, c.loop-i-test.true)
 
-pub overflow_add-i : goal.overflow_add-i
-overflow_add-i c = omega (arith, c.loop-i-test.true, c.requires.1)
-
-pub loop-i-smaller : goal.loop-i-smaller
-loop-i-smaller c = omega (arith, c.loop-i-test.true)
-
 pub loop-i-preserved : goal.loop-i-preserved
 loop-i-preserved c = let a = c.args in let l = c.loop-i in let f = c.five_at-s in
     totals_next a.text.now a.steps.now a.payload.now a.n a.made l.laid l.cut l.going l.coming l.next l.taken l.i l.invariant f.result f.ensures.five c.loop-i-test.true f.ensures.small _ _ c.breaks_in-going.ensures c.brought_breaks-coming.ensures c.requires.2 c.requires.3
@@ -79,7 +73,7 @@ pub overflow_sub-result : goal.overflow_sub-result
 overflow_sub-result c = omega (arith, c.loop-i.invariant.next_rest, c.requires.2)
 
 pub overflow_add-result : goal.overflow_add-result
-overflow_add-result c = omega (arith, c.loop-i.invariant.laid-few, c.loop-i.invariant.upto, c.requires.1, c.requires.3)
+overflow_add-result c = omega (arith, c.loop-i.invariant.laid-few, c.loop-i.auto.i-end, c.requires.1, c.requires.3)
 
 pub returns : goal.returns
 returns c = let a = c.args in let l = c.loop-i in totals_all a.text.now a.steps.now a.payload.now a.n a.made l.laid l.cut l.going l.coming l.next l.taken l.i l.invariant c.loop-i-test.false c.requires.2

@@ -4,8 +4,5 @@ use Rattle.step.specs.Calls.{Ready}
 use Rattle.scriptrun.specs.Runs.{Come}
 use Rattle.scriptrun.proofs.read_all.Given as goal
 
-abbrev pub invariant-loop-turns : goal.invariant-loop-turns
-invariant-loop-turns l = Ready l.read.script l.text l.marks × (l.read.pending ≤ 36_865) × Come (state_of l.read.script l.text l.marks) (take l.read.pending l.line)
-
-abbrev pub decreases-loop-turns : goal.decreases-loop-turns
-decreases-loop-turns l = l.turns
+abbrev pub invariant-loop : goal.invariant-loop
+invariant-loop l = Ready l.read.script l.text l.marks × (l.read.pending ≤ 36_865) × Come (state_of l.read.script l.text l.marks) (take l.read.pending l.line)

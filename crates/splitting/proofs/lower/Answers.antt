@@ -4,7 +4,7 @@ use Rattle.splitting.proofs.lower.Goals as goal
 pub returns-then-n-gt1 : goal.returns-then-n-gt1
 returns-then-n-gt1 c =
     let a = c.args in
-    let P = lowered a.steps.now a.n a.by c.min.result.0 c.if-n-gt1.true c.requires c.min.ensures in
+    let P = lowered a.steps.now a.n a.by c.saturating_sub.result c.if-n-gt1.true c.requires c.saturating_sub.ensures in
     record { come = P.0; by_index = P.1 }
 
 pub returns-else-n-gt1 : goal.returns-else-n-gt1

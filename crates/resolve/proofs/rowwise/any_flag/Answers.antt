@@ -1,16 +1,13 @@
-use Rattle.resolve.proofs.Flags.{any-yes, any-no, any-end}
-use mathlib.Core.Path.{refl, sym, ◌∙◌}
-use native.Mathlib.Omega.{arith}
+use mathlib.Core.Path.{◌∙◌}
+use mathlib.Core.Bool.{not}
+use lib.Dec.{eqb}
+use Rattle.std.proofs.Common.{rules, tests}
+use Rattle.std.proofs.lemmas.Iterator.{YieldsList-from_slice}
+use Rattle.std.proofs.lemmas.Iterator.Search.{any_from_yields_List}
+use Rattle.resolve.proofs.Flags.{any-listed}
 use Rattle.resolve.proofs.rowwise.any_flag.Goals as goal
 
-pub loop-i-init : goal.loop-i-init
-loop-i-init c = (omega arith, refl)
-
-pub returns-then-flags-i-ne0 : goal.returns-then-flags-i-ne0
-returns-then-flags-i-ne0 c = let l = c.loop-i in sym (any-yes c.args.flags.now l.i (omega arith) c.if-flags-i-ne0.true) ∙ l.invariant.1
-
-pub loop-i-preserved : goal.loop-i-preserved
-loop-i-preserved c = let l = c.loop-i in (omega arith, sym (any-no c.args.flags.now l.i (omega arith) c.if-flags-i-ne0.false) ∙ l.invariant.1)
-
 pub returns : goal.returns
-returns c = let l = c.loop-i in sym (any-end c.args.flags.now l.i (omega arith)) ∙ l.invariant.1
+returns c =
+    let s = c.args.flags.now in
+    any_from_yields_List (λ x. not (eqb x 0)) _ _ _ c.any.ensures.ran (YieldsList-from_slice s cc) (λ x b q k. search (rules, tests)) ∙ any-listed s

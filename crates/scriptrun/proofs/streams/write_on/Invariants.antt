@@ -1,8 +1,5 @@
 use Rattle.std.proofs.Common.{length, ◌≤◌}
 use Rattle.scriptrun.proofs.streams.write_on.Given as goal
 
-abbrev pub invariant-loop-turns : goal.invariant-loop-turns
-invariant-loop-turns l = l.done ≤ length l.bytes
-
-abbrev pub decreases-loop-turns : goal.decreases-loop-turns
-decreases-loop-turns l = l.turns
+abbrev pub invariant-loop : goal.invariant-loop
+invariant-loop l = l.done ≤ length l.bytes
