@@ -49,7 +49,7 @@ fn cut_splice(text: &[u32], begin: CharOffset, pos: Position, width: u32, pad: u
     let start = begin.0;
     let len = rows::line_char_count(&text[start..], Row(0));
     let col = pos.col;
-    let left = Col(col.0 - Col(pad).min(col).0).min(len);
+    let left = Col(col.0.saturating_sub(pad)).min(len);
     let chunk = col.min(len);
     let wide = Col(width).min(Col(len.0 - chunk.0));
     Cut {
