@@ -42,14 +42,8 @@ replace-requires c = let q = sizes (goal.at.replace-requires c).After-join_turn-
 pub overflow_cast-cols : goal.overflow_cast-cols
 overflow_cast-cols c = omega (arith, sizes (goal.at.overflow_cast-cols c).After-join_turn-turn)
 
-pub overflow_cast-flags : goal.overflow_cast-flags
-overflow_cast-flags c = omega (arith, sizes (goal.at.overflow_cast-flags c).After-join_turn-turn)
-
 pub overflow_sub-n : goal.overflow_sub-n
 overflow_sub-n c = omega (arith, sizes (goal.at.overflow_sub-n c).After-join_turn-turn)
-
-pub overflow_add-n : goal.overflow_add-n
-overflow_add-n c = omega (arith, sizes (goal.at.overflow_add-n c).After-join_turn-turn)
 
 pub overflow_add-left : goal.overflow_add-left
 overflow_add-left c = omega (arith, sizes (goal.at.overflow_add-left c).After-join_turn-turn)
