@@ -136,7 +136,7 @@ fn put_chunks(
     let end = extent.end.0;
     let size = extent.size;
     let grown = size - used;
-    splice::open_padded(text, used, CharOffset(end), grown, &lens[0..0]);
+    splice::open_padded(text, used, CharOffset(end), grown, &[]);
     put_rows(
         &mut text[0..end + grown],
         end,

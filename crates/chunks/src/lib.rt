@@ -217,14 +217,13 @@ pub fn delete_block(
         col: start.col.min(end.col),
     };
     let widths = [breadth; 256];
-    let none = [0; 1];
     delete_chunks(
         text,
         view,
         room,
         corner,
         &widths[0..height],
-        &none[0..0],
+        &[],
         out,
         lens,
     )

@@ -79,7 +79,6 @@ fn split_row(text: &mut [u32], used: usize, found: Span, cols: &[u32], flags: &[
     requires { (used ≤ length text.old) × (found ≡ span is_lf (take used text.old) found.row.0) × (length (split is_lf is_space spaces (take used text.old) found.row.0 cols.now flags.now).text ≤ length text.old) }
     ensures { text.new ≡ renewed text.old used (split is_lf is_space spaces (take used text.old) found.row.0 cols.now flags.now).text }
 {
-    let lf = [LF; 1];
     let start = found.start;
     let mut n = used;
     let mut end = found.end.0;
@@ -87,7 +86,7 @@ fn split_row(text: &mut [u32], used: usize, found: Span, cols: &[u32], flags: &[
         let flag = flag_at(flags, k);
         let turn = split_turn(&text[0..n], start, CharOffset(end), Col(cols[k]), flag);
         let at = turn.at.0;
-        replace(text, n, CharOffset(at), CharOffset(at + turn.gone), &lf);
+        replace(text, n, CharOffset(at), CharOffset(at + turn.gone), &[LF]);
         n = n + 1 - turn.gone;
         end = at;
     }
@@ -116,7 +115,7 @@ pub fn split(
     // The row is split in room that is opened behind it, so that the text from there on moves once.
     let end = found.end.0;
     let more = sizes.used - used;
-    splice::open_padded(text, used, CharOffset(end), more, &cols[0..0]);
+    splice::open_padded(text, used, CharOffset(end), more, &[]);
     let until = end + more;
     split_row(&mut text[0..until], end, found, cols, flags);
     let at = found.row;
