@@ -80,9 +80,7 @@ pub fn read_text_line(line: &[u8], out: &mut [u32]) -> TextRead
         Head::Malformed => TextRead::Refused(Refusal::BadFrame),
         Head::Text => {
             // A text has no lists.
-            let mut first = [0u32; 1];
-            let mut second = [0u32; 1];
-            text_only(read(line, out, &mut first, &mut second))
+            text_only(read(line, out, &mut [], &mut []))
         }
         Head::Mark(_) => TextRead::Refused(Refusal::BadFrame),
         Head::Edit(_) => TextRead::Refused(Refusal::BadFrame),

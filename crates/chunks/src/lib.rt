@@ -217,14 +217,5 @@ pub fn delete_block(
         col: start.col.min(end.col),
     };
     let widths = [breadth; 256];
-    delete_chunks(
-        text,
-        view,
-        room,
-        corner,
-        &widths[0..height],
-        &[],
-        out,
-        lens,
-    )
+    delete_chunks(text, view, room, corner, &widths[0..height], &[], out, lens)
 }

@@ -67,7 +67,7 @@ fn join_rows(
     requires { (used ≤ length text.old) × (used ≤ text_limit) × (found ≡ span is_lf (take used text.old) found.row.0) × (count ≤ last_row is_lf (take used text.old) - found.row.0) × (count ≤ length cols.old) × (count ≤ length flags.old) }
     ensures { slices text.new cols.new flags.new ≡ filled (slices text.old cols.old flags.old) used (joins (take used text.old) found.row.0 spaced count) }
 {
-    let space = [SPACE; 1];
+    let space = [SPACE];
     let start = found.start.0;
     let mut n = used;
     let mut left = found.end.0 - start;
