@@ -79,6 +79,11 @@ module _ (p q : Position) (xs : List ℕ) where
     within : p.row.0 - q.row.0 < length xs → (ltb p.row.0 q.row.0 || leb (q.row.0 + length xs) p.row.0 || c) ≡ false
     within h = rw ((neither (ltb p.row.0 q.row.0) c i).0, (neither (ltb p.row.0 q.row.0) c i).1, lt-leb (q.row.0 + length xs) p.row.0 (omega (arith, not-above)))
 
+  module _ (i : (ltb p.row.0 q.row.0 || ltb p.col.0 q.col.0) ≡ false) where
+    pub put-moved : p.row.0 - q.row.0 < length xs → at p.row.0 (p.col.0 + get_or xs (p.row.0 - q.row.0) 0) ≡ after_insert_block p q xs
+    unfolding after_insert_block
+    put-moved h = rw (within (ltb p.col.0 q.col.0) i h)
+
   module _ (i : (ltb p.row.0 q.row.0 || leb p.col.0 q.col.0) ≡ false) where
     pub past-col : q.col.0 < p.col.0
     past-col = leb-false _ _ (neither (ltb p.row.0 q.row.0) (leb p.col.0 q.col.0) i).1

@@ -1,9 +1,11 @@
--- Answered here, and not by the attribute, so that a wrong program is refused at values and not at a limit.
+-- Answered here, and not by the attribute, so that a wrong program is refused by a law and not at a limit.
 use Rattle.std.proofs.Common.{arith}
 use Rattle.std.proofs.lemmas.Bool.Decides.{nat_tests}
-use Rattle.after.specs.After.{after_delete_block}
+use Rattle.after.proofs.Rectangles.{block_right}
 use Rattle.after_boxes.proofs.after_delete_block.Goals as goal
 
 pub returns-then-lt-4 : goal.returns-then-lt-4
-unfolding after_delete_block
-returns-then-lt-4 c = grind (arith, nat_tests)
+returns-then-lt-4 c =
+    let a = c.args in
+    block_right a.pos a.start a.end c.min-top.result.0 c.max-bottom.result.0 c.min-left.result.0 c.max-right.result.0 c.min-top.ensures c.max-bottom.ensures c.min-left.ensures c.max-right.ensures
+    (grind (arith, nat_tests)) (grind (arith, nat_tests))
