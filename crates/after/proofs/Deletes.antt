@@ -1,8 +1,8 @@
--- Where a position lands after a Char or a Line delete: each way out of the two functions.
+-- Where a position lands after a Char or a Line delete: ways out of the two functions.
 use mathlib.Core.Path.{◌≡◌}
 use mathlib.Core.Bool.{true, false}
 use Prim.Native.Nat.{ℕ, ◌+◌, ◌-◌, ◌≤◌, ◌<◌}
-use borrow.Author.Tests.{eq-eqb, ne_eqb, le-leb, lt-leb, lt-ltb, le-ltb}
+use borrow.Author.Tests.{eq-eqb, ne_eqb, le-leb, lt-ltb, le-ltb}
 use Rattle.text.specs.declared.Position.{Position}
 use Rattle.text.specs.Rows.{at, upto}
 use Rattle.after.specs.After.{after_delete_char, after_delete_lines}
@@ -33,7 +33,3 @@ module _ (p : Position) (s e : ℕ) where
   pub lines-inside : s ≤ p.row.0 → p.row.0 ≤ e → at s 0 ≡ after_delete_lines p s e
   unfolding after_delete_lines
   lines-inside h k = rw (le-ltb _ _ h, le-leb _ _ k)
-
-  pub lines-below : s ≤ p.row.0 → e < p.row.0 → at (p.row.0 - (e - s + 1)) p.col.0 ≡ after_delete_lines p s e
-  unfolding after_delete_lines
-  lines-below h k = rw (le-ltb _ _ h, lt-leb _ _ k)

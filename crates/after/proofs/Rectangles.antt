@@ -1,4 +1,4 @@
--- Where a position lands after an edit of blocks: each way out of the three functions.
+-- Where a position lands after an edit of blocks: ways out of the three functions.
 use mathlib.Core.Path.{◌≡◌, refl, subst}
 use mathlib.Core.Bool.{Bool, true, false, cond, ◌||◌, or-true}
 use mathlib.Core.List.{List, ◌∷◌}
@@ -80,10 +80,6 @@ module _ (p q : Position) (xs : List ℕ) where
     within h = rw ((neither (ltb p.row.0 q.row.0) c i).0, (neither (ltb p.row.0 q.row.0) c i).1, lt-leb (q.row.0 + length xs) p.row.0 (omega (arith, not-above)))
 
   module _ (i : (ltb p.row.0 q.row.0 || ltb p.col.0 q.col.0) ≡ false) where
-    pub put-below : length xs ≤ p.row.0 - q.row.0 → p ≡ after_insert_block p q xs
-    unfolding after_insert_block
-    put-below h = rw (between (ltb p.row.0 q.row.0) (leb (q.row.0 + length xs) p.row.0) (ltb p.col.0 q.col.0) (below_all (ltb p.col.0 q.col.0) i h))
-
     pub put-moved : p.row.0 - q.row.0 < length xs → at p.row.0 (p.col.0 + get_or xs (p.row.0 - q.row.0) 0) ≡ after_insert_block p q xs
     unfolding after_insert_block
     put-moved h = rw (within (ltb p.col.0 q.col.0) i h)
@@ -95,11 +91,6 @@ module _ (p q : Position) (xs : List ℕ) where
     pub cut_below : length xs ≤ p.row.0 - q.row.0 → p ≡ after_delete_block_chunks p q xs
     unfolding after_delete_block_chunks
     cut_below h = rw (between (ltb p.row.0 q.row.0) (leb (q.row.0 + length xs) p.row.0) (leb p.col.0 q.col.0) (below_all (leb p.col.0 q.col.0) i h))
-
-    pub cut_right : p.row.0 - q.row.0 < length xs → get_or xs (p.row.0 - q.row.0) 0 ≤ p.col.0 - q.col.0
-        → at p.row.0 (p.col.0 - get_or xs (p.row.0 - q.row.0) 0) ≡ after_delete_block_chunks p q xs
-    unfolding after_delete_block_chunks
-    cut_right h k = rw (within (leb p.col.0 q.col.0) i h, le-leb (q.col.0 + get_or xs (p.row.0 - q.row.0) 0) p.col.0 (omega (arith, past-col)))
 
     pub cut_inside : p.row.0 - q.row.0 < length xs → p.col.0 - q.col.0 < get_or xs (p.row.0 - q.row.0) 0
         → at p.row.0 q.col.0 ≡ after_delete_block_chunks p q xs

@@ -15,17 +15,7 @@ use text::{CharOffset, Col, Position, Row};
 fn joins_made(last: Row, row: Row, count: u32) -> u32
     ensures { result ≡ min (max count 1) (last.0 - row.0) }
 {
-    if last.0 <= row.0 {
-        return 0;
-    }
-    let below = last.0 - row.0;
-    if count <= 1 {
-        1
-    } else if count <= below {
-        count
-    } else {
-        below
-    }
+    count.max(1).min(last.0.saturating_sub(row.0))
 }
 
 // The column at which the text of the row `down` rows below this one starts, once they are all joined.
@@ -37,13 +27,11 @@ fn start_col(text: &[u32], row: Row, down: u32, spaced: bool) -> Col
     let mut at = found.end.0;
     let mut left = at - found.start.0;
     let mut col = 0;
-    let mut k = 0;
-    while k < down {
+    for _ in 0..down {
         let turn = join_turn(text, CharOffset(at), left, spaced);
         col = left + turn.gap;
         left = col + turn.len;
         at = at + 1 + turn.len;
-        k += 1;
     }
     Col(col as u32)
 }
@@ -53,23 +41,20 @@ pub fn after_join(pos: Position, row: Row, count: u32, spaced: bool, text: &[u32
     requires { (length text.now ≤ text_limit) × (pos.col.0 ≤ 1_000_000) }
     ensures { result ≡ after_join pos row.0 count spaced text.now }
 {
-    let below = pos.row.0;
-    let col = pos.col.0;
-    let onto = row.0;
-    if below <= onto {
+    if pos.row <= row {
         return pos;
     }
-    let down = below - onto;
+    let down = pos.row.0 - row.0;
     let joined = joins_made(last_row(text), row, count);
     if joined < down {
         return Position {
-            row: Row(below - joined),
-            col: Col(col),
+            row: Row(pos.row.0 - joined),
+            col: pos.col,
         };
     }
     let start = start_col(text, row, down, spaced);
     Position {
-        row: Row(onto),
-        col: Col(start.0 + col),
+        row,
+        col: Col(start.0 + pos.col.0),
     }
 }

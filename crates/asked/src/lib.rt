@@ -66,9 +66,7 @@ pub fn read_text_line(line: &[u8], out: &mut [u32]) -> Result<usize, Refusal>
         Head::Malformed => Err(Refusal::BadFrame),
         Head::Text => {
             // A text has no lists.
-            let mut first = [0u32; 1];
-            let mut second = [0u32; 1];
-            text_only(read(line, out, &mut first, &mut second)?)
+            text_only(read(line, out, &mut [], &mut [])?)
         }
         Head::Mark(_) => Err(Refusal::BadFrame),
         Head::Edit(_) => Err(Refusal::BadFrame),

@@ -8,7 +8,7 @@ use lib.ListN.{length, take, drop, replicate, length-take, length-drop}
 use lib.Seq.{paste}
 use Rattle.promise.specs.Slices.{over}
 use Rattle.text.specs.declared.Position.{Position}
-use Rattle.text.specs.Rows.{Line, lines, at, row_count, row_start, clamp}
+use Rattle.text.specs.Rows.{Line, lines, row_count, row_start, clamp}
 use Rattle.text.specs.Text.{is_lf, renewed}
 use Rattle.text.proofs.Ended.{Plain}
 use Rattle.text.proofs.Renewed.{renewed-text}

@@ -34,12 +34,8 @@ pub fn rows_from(text: &[u32], row: Row, most: usize) -> usize
     requires { length text.now ≤ text_limit }
     ensures { result ≡ min most (row_count is_lf text.now - row.0) }
 {
-    let count = rows::row_count(text);
-    if count <= row.0 {
-        return 0;
-    }
-    let below = (count - row.0) as usize;
-    if below < most { below } else { most }
+    let below = rows::row_count(text).saturating_sub(row.0);
+    most.min(below as usize)
 }
 
 // The row of `pos` begins at `begin`.
@@ -48,8 +44,7 @@ fn put_splice(text: &[u32], begin: CharOffset, pos: Position) -> Put
     ensures { result ≡ put_at text.now pos }
 {
     let start = begin.0;
-    let used = text.len();
-    let len = rows::line_char_count(&text[start..used], Row(0));
+    let len = rows::line_char_count(&text[start..], Row(0));
     let col = pos.col;
     let within = col.min(len);
     Put {
@@ -70,19 +65,17 @@ fn put_size(text: &[u32], at: Position, lens: &[u32]) -> Extent
     let mut end = text.len();
     let first = rows::line_to_char(text, at.row).0;
     let mut start = first;
-    let mut k = 0;
-    while k < lens.len() {
+    for (k, len) in lens.iter().enumerate() {
         let pos = Position {
             row: Row(row + k as u32),
             col,
         };
         let put = put_splice(text, CharOffset(start), pos);
         let pad = put.pad as usize;
-        let len = lens[k] as usize;
+        let len = *len as usize;
         size += pad + len;
         end = put.end.0;
         start = end + 1;
-        k += 1;
     }
     Extent {
         size,
@@ -109,22 +102,20 @@ fn put_rows(
     let mut long = used;
     let mut start = begin.0;
     let mut from = 0;
-    let mut k = 0;
-    while k < lens.len() {
+    for (k, len) in lens.iter().enumerate() {
         let pos = Position {
             row: Row(row + k as u32),
             col,
         };
         let put = put_splice(&text[0..long], CharOffset(start), pos);
         let pad = put.pad as usize;
-        let len = lens[k] as usize;
+        let len = *len as usize;
         let end = from + len;
         splice::open_padded(text, long, put.at, pad, &payload[from..end]);
         pads[k] = put.pad;
         long += pad + len;
         start = put.end.0 + pad + len + 1;
         from = end;
-        k += 1;
     }
 }
 
@@ -145,7 +136,7 @@ fn put_chunks(
     let end = extent.end.0;
     let size = extent.size;
     let grown = size - used;
-    splice::open_padded(text, used, CharOffset(end), grown, &lens[0..0]);
+    splice::open_padded(text, used, CharOffset(end), grown, &[]);
     put_rows(
         &mut text[0..end + grown],
         end,

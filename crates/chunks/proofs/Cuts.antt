@@ -53,9 +53,6 @@ chunk_part c w b = elim (dec_le c (length b)) [
       rw (min-eq_right g, z, drop_of_length-le b {i = c} g) (sym (take_all w [] (omega arith)))
 ]
 
-left_end : (c d L : ℕ) → min (c - min d c) L ≡ min (c - d) L
-left_end c d L = let e : c - min d c ≡ c - d = omega arith in rw e
-
 right_end : (c w L b g : ℕ) → b ≡ min c L → g ≡ min w (L - b) → b + g ≡ min (c + w) L
 right_end c w L b g eb eg = omega arith
 
@@ -64,14 +61,14 @@ module _ (t : List ℕ) (p : Position) (w d s n : ℕ) (h : p.row.0 ≤ last_row
   len_found : n ≡ row_len is_lf t p.row.0
   len_found = scan_row t s n f p.row.0 e
 
-  -- m, a, b and g are what the code makes of the row's length
-  pub cut_found : (m a b g : ℕ) → m ≡ min d p.col.0 → a ≡ min (p.col.0 - m) n → b ≡ min p.col.0 n → g ≡ min w (n - b)
+  -- a, b and g are what the code makes of the row's length
+  pub cut_found : (a b g : ℕ) → a ≡ min (p.col.0 - d) n → b ≡ min p.col.0 n → g ≡ min w (n - b)
       → record { from = char_at (s + a); chunk = char_at (s + b); to = char_at (s + b + g); end = char_at (s + n) } ≡ cut_at t p w d
-  cut_found m a b g em ea eb eg =
+  cut_found a b g ea eb eg =
       let r : ℕ = p.row.0 in
       let c : ℕ = p.col.0 in
       let L : ℕ = row_len is_lf t r in
-      let x : s + a ≡ offset is_lf t (at r (c - d)) = ap₂ {C = ℕ} ◌+◌ e (ea ∙ rw (em, len_found) (left_end c d L)) ∙ sym (offset-row is_lf t r (c - d) h) in
+      let x : s + a ≡ offset is_lf t (at r (c - d)) = ap₂ {C = ℕ} ◌+◌ e (ea ∙ rw len_found) ∙ sym (offset-row is_lf t r (c - d) h) in
       let y : s + b ≡ offset is_lf t p = ap₂ {C = ℕ} ◌+◌ e (eb ∙ rw len_found) ∙ sym (offset-row is_lf t r c h) in
       let k : b + g ≡ min (c + w) L = right_end c w L b g (rw len_found at eb) (rw len_found at eg) in
       let z : s + b + g ≡ offset is_lf t (at r (c + w)) = add_assoc s b g ∙ ap₂ {C = ℕ} ◌+◌ e k ∙ sym (offset-row is_lf t r (c + w) h) in

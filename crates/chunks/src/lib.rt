@@ -38,10 +38,7 @@ struct Sizes {
 fn pad_at(pads: &[u32], k: usize) -> u32
     ensures { result ≡ get_or pads.now k 0 }
 {
-    if k < pads.len() {
-        return pads[k];
-    }
-    0
+    pads.get(k).copied().unwrap_or(0)
 }
 
 // The row of `pos` begins at `begin`.
@@ -50,10 +47,9 @@ fn cut_splice(text: &[u32], begin: CharOffset, pos: Position, width: u32, pad: u
     ensures { result ≡ cut_at text.now pos width pad }
 {
     let start = begin.0;
-    let used = text.len();
-    let len = rows::line_char_count(&text[start..used], Row(0));
+    let len = rows::line_char_count(&text[start..], Row(0));
     let col = pos.col;
-    let left = Col(col.0 - Col(pad).min(col).0).min(len);
+    let left = Col(col.0.saturating_sub(pad)).min(len);
     let chunk = col.min(len);
     let wide = Col(width).min(Col(len.0 - chunk.0));
     Cut {
@@ -75,18 +71,16 @@ fn cut_size(text: &[u32], at: Position, widths: &[u32], pads: &[u32]) -> Sizes
     let first = rows::line_to_char(text, at.row);
     let mut start = first.0;
     let mut end = text.len();
-    let mut k = 0;
-    while k < widths.len() {
+    for (k, width) in widths.iter().enumerate() {
         let pos = Position {
             row: Row(row + k as u32),
             col,
         };
-        let cut = cut_splice(text, CharOffset(start), pos, widths[k], pad_at(pads, k));
+        let cut = cut_splice(text, CharOffset(start), pos, *width, pad_at(pads, k));
         gone += cut.to.0 - cut.from.0;
         payload += cut.to.0 - cut.chunk.0;
         end = cut.end.0;
         start = end + 1;
-        k += 1;
     }
     Sizes {
         used: text.len() - gone,
@@ -126,14 +120,13 @@ fn cut_rows(
     let mut long = used;
     let mut start = begin.0;
     let mut filled = 0;
-    let mut k = 0;
-    while k < widths.len() {
+    for (k, width) in widths.iter().enumerate() {
         let pos = Position {
             row: Row(row + k as u32),
             col,
         };
         let pad = pad_at(pads, k);
-        let cut = cut_splice(&text[0..long], CharOffset(start), pos, widths[k], pad);
+        let cut = cut_splice(&text[0..long], CharOffset(start), pos, *width, pad);
         cut_row(text, long, cut, out, filled);
         let len = cut.to.0 - cut.chunk.0;
         let gone = cut.to.0 - cut.from.0;
@@ -141,7 +134,6 @@ fn cut_rows(
         filled += len;
         long -= gone;
         start = cut.end.0 - gone + 1;
-        k += 1;
     }
 }
 
@@ -222,15 +214,5 @@ pub fn delete_block(
         col: start.col.min(end.col),
     };
     let widths = [breadth; 256];
-    let none = [0; 1];
-    delete_chunks(
-        text,
-        view,
-        room,
-        corner,
-        &widths[0..height],
-        &none[0..0],
-        out,
-        lens,
-    )
+    delete_chunks(text, view, room, corner, &widths[0..height], &[], out, lens)
 }

@@ -69,7 +69,7 @@ pub fn apply_frame(
         marks: 0,
         edited: true,
     };
-    let head = judge(among_edits, &text[0..0], line);
+    let head = judge(among_edits, &[], line);
     match head {
         Head::Edit(_) => apply_edit_line(text, view, line, outpayload, outfirst, outsecond),
         Head::Malformed => Err(Refusal::BadFrame),

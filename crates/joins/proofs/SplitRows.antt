@@ -6,16 +6,15 @@ use Prim.Native.Nat.{ℕ, zero, suc, ◌+◌, ◌-◌, ◌≤◌, ◌<◌, min}
 use native.Mathlib.Nat.{min-eq_left, min-eq_right}
 use native.Mathlib.Decide.{dec_le}
 use native.Mathlib.Omega.{arith}
-use borrow.Author.Tests.{eq-eqb, ne_eqb}
 use lib.Dec.{eqb, eqb-suc-zero}
 use lib.ListN.{length, take, drop, get_or, length-append, length-drop, drop_of_length-le}
 use lib.Seq.{slice, length-slice, drop-cons, drop-drop, get_or-drop, get_or-take, take-length, take-append-le, drop-append-le, take-append-add, drop-append-add}
-use Rattle.promise.proofs.Lists.{next, take_min, take-both}
+use Rattle.promise.proofs.Lists.{take_min, take-both}
 use Rattle.text.specs.declared.CharOffset.{CharOffset}
 use Rattle.text.specs.Rows.{Line, line, unlines, char_at, spliced}
 use Rattle.text.specs.Text.{is_lf}
 use Rattle.text.proofs.Broken.{unlines-append}
-use Rattle.edit.specs.Edits.{unspace, split_first, split_row, any_flag}
+use Rattle.edit.specs.Edits.{unspace, split_first, split_row}
 use Rattle.edit.specs.Refusals.{is_space, spaces}
 use Rattle.joins.specs.Turns.{gone_at, split_turn}
 
@@ -135,18 +134,3 @@ module _ (t : List ℕ) (s e c f : ℕ) (h : s ≤ e) (k : e ≤ length t) where
 
     pub turn_plain : (not (eqb f 0) && eqb (get_or t (s + c) 0) 32) ≡ false → record { at = char_at (s + c); gone = 0 } ≡ split_turn t s e c f
     turn_plain q = rw (place, gone_cons (slice s e t) c f (get_or t (s + c) 0) (drop (suc c) (slice s e t)) cons, q)
-
--- ---- a scan of the flags
-
-module _ (s : List ℕ) (i : ℕ) (h : i < length s) where
-  pub any-yes : (get_or s i 0 ≡ 0 → ⊥) → any_flag (drop i s) ≡ true
-  unfolding any_flag
-  any-yes n = rw (next s i h, ne_eqb (get_or s i 0) 0 n)
-
-  pub any-no : get_or s i 0 ≡ 0 → any_flag (drop i s) ≡ any_flag (drop (i + 1) s)
-  unfolding any_flag
-  any-no e = rw (next s i h, eq-eqb (get_or s i 0) 0 e)
-
-pub any-end : (s : List ℕ) (i : ℕ) → length s ≤ i → any_flag (drop i s) ≡ false
-unfolding any_flag
-any-end s i h = rw (drop_of_length-le s h)

@@ -34,6 +34,7 @@ fn join_plan(text: &[u32], found: Span, count: u32, spaced: bool) -> JoinPlan
     let mut at = found.end.0;
     let mut left = at - found.start.0;
     let mut made: u32 = 0;
+    // A cursor: each turn moves it by what it read.
     while (at < text.len()) & ((made == 0) | (made < count)) {
         let turn = join_turn(text, CharOffset(at), left, spaced);
         used = used - 1 + turn.gap;
@@ -66,12 +67,11 @@ fn join_rows(
     requires { (used ≤ length text.old) × (used ≤ text_limit) × (found ≡ span is_lf (take used text.old) found.row.0) × (count ≤ last_row is_lf (take used text.old) - found.row.0) × (count ≤ length cols.old) × (count ≤ length flags.old) }
     ensures { slices text.new cols.new flags.new ≡ filled (slices text.old cols.old flags.old) used (joins (take used text.old) found.row.0 spaced count) }
 {
-    let space = [SPACE; 1];
+    let space = [SPACE];
     let start = found.start.0;
     let mut n = used;
     let mut left = found.end.0 - start;
-    let mut k = 0;
-    while k < count {
+    for k in 0..count {
         let at = start + left;
         let turn = join_turn(&text[0..n], CharOffset(at), left, spaced);
         let gap = turn.gap;
@@ -80,7 +80,6 @@ fn join_rows(
         flags[k] = gap as u32;
         n = n - 1 + gap;
         left = left + gap + turn.len;
-        k += 1;
     }
 }
 

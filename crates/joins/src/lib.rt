@@ -46,11 +46,11 @@ fn replace(text: &mut [u32], used: usize, start: CharOffset, end: CharOffset, wi
     requires { (start.0 ≤ end.0) × (end.0 ≤ start.0 + 1) × (end.0 ≤ used) × (used ≤ length text.old) × (length with.now ≤ 1) × (used + length with.now ≤ length text.old + (end.0 - start.0)) }
     ensures { text.new ≡ renewed text.old used (spliced (take used text.old) start.0 end.0 with.now) }
 {
-    if start.0 == end.0 {
+    if start == end {
         splice::open_gap(text, used, start, with);
         return;
     }
-    if with.len() == 0 {
+    if with.is_empty() {
         splice::remove(text, used, start, end);
         return;
     }

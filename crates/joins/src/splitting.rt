@@ -17,20 +17,13 @@ use text::{CharOffset, Col, LF, Position, Row, Span};
 fn flag_at(flags: &[u32], k: usize) -> u32
     ensures { result ≡ get_or flags.now k 0 }
 {
-    if k < flags.len() { flags[k] } else { 0 }
+    flags.get(k).copied().unwrap_or(0)
 }
 
 fn any_flag(flags: &[u32]) -> bool
     ensures { result ≡ any_flag flags.now }
 {
-    let mut i = 0;
-    while i < flags.len() {
-        if flags[i] != 0 {
-            return true;
-        }
-        i += 1;
-    }
-    false
+    flags.iter().any(|flag| *flag != 0)
 }
 
 // The split at a column of the row that stands from `start` up to `end`.
@@ -64,9 +57,7 @@ fn split_plan(text: &[u32], found: Span, cols: &[u32], flags: &[u32]) -> SplitPl
     let mut within = true;
     let mut used = text.len();
     let mut end = found.end.0;
-    let mut k = cols.len();
-    while 0 < k {
-        k -= 1;
+    for k in (0..cols.len()).rev() {
         let col = Col(cols[k]);
         let flag = flag_at(flags, k);
         let turn = split_turn(text, start, CharOffset(end), col, flag);
@@ -88,17 +79,14 @@ fn split_row(text: &mut [u32], used: usize, found: Span, cols: &[u32], flags: &[
     requires { (used ≤ length text.old) × (found ≡ span is_lf (take used text.old) found.row.0) × (length (split is_lf is_space spaces (take used text.old) found.row.0 cols.now flags.now).text ≤ length text.old) }
     ensures { text.new ≡ renewed text.old used (split is_lf is_space spaces (take used text.old) found.row.0 cols.now flags.now).text }
 {
-    let lf = [LF; 1];
     let start = found.start;
     let mut n = used;
     let mut end = found.end.0;
-    let mut k = cols.len();
-    while 0 < k {
-        k -= 1;
+    for k in (0..cols.len()).rev() {
         let flag = flag_at(flags, k);
         let turn = split_turn(&text[0..n], start, CharOffset(end), Col(cols[k]), flag);
         let at = turn.at.0;
-        replace(text, n, CharOffset(at), CharOffset(at + turn.gone), &lf);
+        replace(text, n, CharOffset(at), CharOffset(at + turn.gone), &[LF]);
         n = n + 1 - turn.gone;
         end = at;
     }
@@ -124,7 +112,7 @@ pub fn split(
     // The row is split in room that is opened behind it, so that the text from there on moves once.
     let end = found.end.0;
     let more = sizes.used - used;
-    splice::open_padded(text, used, CharOffset(end), more, &cols[0..0]);
+    splice::open_padded(text, used, CharOffset(end), more, &[]);
     let until = end + more;
     split_row(&mut text[0..until], end, found, cols, flags);
     let at = found.row;

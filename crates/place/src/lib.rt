@@ -32,25 +32,21 @@ impl Place {
         requires { self.marks ≤ mark_limit }
         ensures { (g : Form) → head_of g ≡ head → result ≡ seen self g }
     {
-        let sound = true;
-        let marks = self.marks;
-        let edited = self.edited;
         match head {
             Head::Malformed => self,
             Head::Text => Place {
-                sound,
-                marks,
-                edited,
+                sound: true,
+                ..self
             },
             Head::Mark(_) => Place {
-                sound,
-                marks: marks + 1,
-                edited,
+                sound: true,
+                marks: self.marks + 1,
+                ..self
             },
             Head::Edit(_) => Place {
-                sound,
-                marks,
+                sound: true,
                 edited: true,
+                ..self
             },
         }
     }

@@ -21,15 +21,7 @@ fn offset_of(why: Refusal) -> usize
 {
     match why {
         Refusal::BadUtf8(at) => at.0,
-        Refusal::BadText => 0,
-        Refusal::TooBig => 0,
-        Refusal::TooMany => 0,
-        Refusal::BadPayload => 0,
-        Refusal::Reversed => 0,
-        Refusal::BeyondRow => 0,
-        Refusal::NoRoom => 0,
-        Refusal::NoRecord => 0,
-        Refusal::BadFrame => 0,
+        _ => 0,
     }
 }
 
@@ -131,13 +123,11 @@ pub fn no_bounds(refusal: u32) -> Bounds
 fn changed(applied: Applied) -> Change
     ensures { result ≡ told_done applied }
 {
-    let view = applied.view;
-    let inverse = applied.inverse;
     Change {
         refusal: 0,
         offset: 0,
-        view,
-        inverse: told_edit(inverse),
+        view: applied.view,
+        inverse: told_edit(applied.inverse),
         payload: applied.payload,
         first: applied.first,
         second: applied.second,
@@ -238,12 +228,10 @@ pub fn told_span(span: RowSpan) -> Cover
 pub fn told_bounds(bounds: RowBounds) -> Bounds
     ensures { result ≡ told_bounds bounds }
 {
-    let top = bounds.top;
-    let bottom = bounds.bottom;
     Bounds {
         refusal: 0,
-        top: top.0,
-        bottom: bottom.0,
+        top: bounds.top.0,
+        bottom: bounds.bottom.0,
     }
 }
 

@@ -9,6 +9,7 @@ use select::{Sel, Selection};
 use text::{Col, Position, Row};
 
 // The edit that the numbers mean: the kinds in their order.
+#[tactic(auto, using(crate::proofs::Items::none_of_eleven), unfolding(crate::specs::Meanings::item))]
 pub fn meant_edit(numbers: Numbers) -> Option<Edit>
     ensures { result ≡ meant numbers }
 {
@@ -72,12 +73,7 @@ pub fn no_edit() -> Numbers
 fn at_place(kind: u32, place: Position) -> Numbers
     ensures { result ≡ at_place kind place }
 {
-    Numbers {
-        kind,
-        start: place,
-        end: origin(),
-        count: 0,
-    }
+    at_ends(kind, place, origin())
 }
 
 fn at_ends(kind: u32, start: Position, end: Position) -> Numbers
@@ -94,12 +90,9 @@ fn at_ends(kind: u32, start: Position, end: Position) -> Numbers
 fn at_row(kind: u32, row: Row, count: u32) -> Numbers
     ensures { result ≡ at_row kind row count }
 {
-    let start = Position { row, col: Col(0) };
     Numbers {
-        kind,
-        start,
-        end: origin(),
         count,
+        ..at_place(kind, Position { row, col: Col(0) })
     }
 }
 
@@ -125,13 +118,7 @@ pub fn told_edit(edit: Edit) -> Numbers
             row,
             count,
             with_space,
-        } => {
-            if with_space {
-                at_row(6, row, count)
-            } else {
-                at_row(5, row, count)
-            }
-        }
+        } => at_row(if with_space { 6 } else { 5 }, row, count),
         Edit::SplitLines { row } => at_row(7, row, 0),
         Edit::Replace { start, end } => at_ends(8, start, end),
         Edit::InsertBlock { at } => at_place(9, at),
@@ -140,6 +127,7 @@ pub fn told_edit(edit: Edit) -> Numbers
 }
 
 // The selection that the kind means, with these ends.
+#[tactic(auto, using(crate::proofs::Items::none_of_three), unfolding(crate::specs::Meanings::item))]
 pub fn meant_selection(kind: u32, sel: Sel) -> Option<Selection>
     ensures { result ≡ item (selections sel) kind }
 {
@@ -147,14 +135,10 @@ pub fn meant_selection(kind: u32, sel: Sel) -> Option<Selection>
     let head = sel.head;
     match kind {
         0 => Some(Selection::Char { anchor, head }),
-        1 => {
-            let anchor_row = anchor.row;
-            let head_row = head.row;
-            Some(Selection::Line {
-                anchor_row,
-                head_row,
-            })
-        }
+        1 => Some(Selection::Line {
+            anchor_row: anchor.row,
+            head_row: head.row,
+        }),
         2 => Some(Selection::Block { anchor, head }),
         _ => None,
     }

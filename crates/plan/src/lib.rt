@@ -35,7 +35,7 @@ pub fn end_after(pos: Position, text: &[u32]) -> Position
     let len = rows::line_char_count(text, last);
     if last.0 == 0 {
         return Position {
-            row: Row(pos.row.0),
+            row: pos.row,
             col: Col(pos.col.0 + len.0),
         };
     }
@@ -49,6 +49,5 @@ pub fn end_after(pos: Position, text: &[u32]) -> Position
 pub fn next_view(view: View, used: usize, cursor: Position) -> View
     ensures { result ≡ record { used = used; cursor = cursor; changes = (view.changes + 1) % 2 ^ 64 } }
 {
-    let changes = std::num::wrapping_add_u64(view.changes, 1);
-    view.renew(used, cursor, changes)
+    view.renew(used, cursor, view.changes.wrapping_add(1))
 }

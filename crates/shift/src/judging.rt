@@ -10,18 +10,18 @@ use text::{Position, is_text};
 use too_big::numbers_small;
 use too_many::lists_few;
 
+#[tactic(auto, using(std::proofs::lemmas::Bool::Decides::nat_tests), unfolding(crate::specs::Call::ordered_range))]
 fn range_ordered(start: Position, end: Position, kind: MotionKind) -> bool
     ensures { result ≡ ordered_range start end kind }
 {
-    let first = start.row.0;
-    let last = end.row.0;
     match kind {
-        MotionKind::Char => start.le(end),
-        MotionKind::Line => first <= last,
+        MotionKind::Char => start <= end,
+        MotionKind::Line => start.row <= end.row,
         MotionKind::Block => true,
     }
 }
 
+#[tactic(auto, using(std::proofs::lemmas::Bool::Decides::nat_tests), unfolding(crate::specs::Call::ordered_ok))]
 fn ordered(edit: Edit) -> bool
     ensures { result ≡ ordered_ok edit }
 {
@@ -31,7 +31,7 @@ fn ordered(edit: Edit) -> bool
         Edit::DeleteRange { start, end, kind } => range_ordered(start, end, kind),
         Edit::JoinLines { .. } => true,
         Edit::SplitLines { .. } => true,
-        Edit::Replace { start, end } => start.le(end),
+        Edit::Replace { start, end } => start <= end,
         Edit::InsertBlock { .. } => true,
         Edit::DeleteBlockChunks { .. } => true,
     }

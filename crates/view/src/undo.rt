@@ -17,26 +17,9 @@ fn rows_wide(text: &[u32], count: usize, left: Col) -> bool
     ensures { result ≡ wide left.0 (take count (lines is_lf text.now)) }
 {
     let least = left.0 as usize;
-    let mut rows = count;
-    let mut col = 0;
-    let mut i = 0;
-    while i < text.len() {
-        if rows == 0 {
-            return true;
-        }
-        if text[i] == LF {
-            if col < least {
-                return false;
-            }
-            rows -= 1;
-            col = 0;
-            i += 1;
-        } else {
-            col += 1;
-            i += 1;
-        }
-    }
-    (rows == 0) | (least <= col)
+    text.split(|x| *x == LF)
+        .take(count)
+        .all(|row| least <= row.len())
 }
 
 fn block_undoable(text: &[u32], start: Position, end: Position) -> bool
@@ -46,7 +29,7 @@ fn block_undoable(text: &[u32], start: Position, end: Position) -> bool
     let top = start.row.min(end.row);
     let left = start.col.min(end.col);
     let last = last_row(text);
-    if last.0 < top.0 {
+    if last < top {
         return true;
     }
     let from = line_to_char(text, top).0;

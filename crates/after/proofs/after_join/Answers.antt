@@ -2,16 +2,14 @@ use mathlib.Core.Path.{ap, ◌∙◌}
 use Prim.Native.Nat.{ℕ, ◌-◌, min, max}
 use Rattle.after.proofs.JoinCols.{join-above, join_below, join-onto}
 use native.Mathlib.Omega.{arith}
+use Rattle.std.proofs.lemmas.Bool.Decides.{nat_tests}
 use Rattle.after.proofs.after_join.Goals as goal
 
-pub returns-then-below-onto : goal.returns-then-below-onto
-returns-then-below-onto c = let a = c.args in join-above a.pos a.row.0 a.count a.spaced a.text.now c.if-below-onto.true
+pub returns-then-le : goal.returns-then-le
+returns-then-le c = let a = c.args in join-above a.pos a.row.0 a.count a.spaced a.text.now (grind (arith, nat_tests))
 
 pub returns-then-joined-down : goal.returns-then-joined-down
-returns-then-joined-down c = let a = c.args in join_below a.pos a.row.0 a.count a.spaced a.text.now c.joins_made-joined.result (c.joins_made-joined.ensures ∙ ap (λ (n : ℕ). min (max a.count 1) (n - a.row.0)) c.last_row.ensures) c.if-below-onto.false c.if-joined-down.true
-
-pub start_col-start-requires : goal.start_col-start-requires
-start_col-start-requires c = (c.requires.0, omega (arith, c.if-below-onto.false), omega (arith, c.joins_made-joined.ensures, c.last_row.ensures, c.if-below-onto.false, c.if-joined-down.false))
+returns-then-joined-down c = let a = c.args in join_below a.pos a.row.0 a.count a.spaced a.text.now c.joins_made-joined.result (c.joins_made-joined.ensures ∙ ap (λ (n : ℕ). min (max a.count 1) (n - a.row.0)) c.last_row.ensures) (grind (arith, nat_tests)) c.if-joined-down.true
 
 pub returns : goal.returns
-returns c = let a = c.args in join-onto a.pos a.row.0 a.count a.spaced a.text.now c.joins_made-joined.result (c.joins_made-joined.ensures ∙ ap (λ (n : ℕ). min (max a.count 1) (n - a.row.0)) c.last_row.ensures) c.if-below-onto.false c.if-joined-down.false c.start_col-start.result.0 c.start_col-start.ensures.0
+returns c = let a = c.args in join-onto a.pos a.row.0 a.count a.spaced a.text.now c.joins_made-joined.result (c.joins_made-joined.ensures ∙ ap (λ (n : ℕ). min (max a.count 1) (n - a.row.0)) c.last_row.ensures) (grind (arith, nat_tests)) c.if-joined-down.false c.start_col-start.result.0 c.start_col-start.ensures.0

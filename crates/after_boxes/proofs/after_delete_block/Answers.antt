@@ -1,11 +1,11 @@
-use Rattle.after.proofs.Rectangles.{block_outside, block_right, block_inside}
+-- Answered here, and not by the attribute, so that a wrong program is refused by a law and not at a limit.
+use Rattle.std.proofs.Common.{arith}
+use Rattle.std.proofs.lemmas.Bool.Decides.{nat_tests}
+use Rattle.after.proofs.Rectangles.{block_right}
 use Rattle.after_boxes.proofs.after_delete_block.Goals as goal
 
-pub returns-then-pos-top : goal.returns-then-pos-top
-returns-then-pos-top c = let a = c.args in block_outside a.pos a.start a.end c.min-top.result.0 c.max-bottom.result.0 c.min-left.result.0 c.max-right.result.0 c.min-top.ensures c.max-bottom.ensures c.min-left.ensures c.max-right.ensures c.if-pos-top.true
-
-pub returns-then-right-pos : goal.returns-then-right-pos
-returns-then-right-pos c = let a = c.args in block_right a.pos a.start a.end c.min-top.result.0 c.max-bottom.result.0 c.min-left.result.0 c.max-right.result.0 c.min-top.ensures c.max-bottom.ensures c.min-left.ensures c.max-right.ensures c.if-pos-top.false c.if-right-pos.true
-
-pub returns : goal.returns
-returns c = let a = c.args in block_inside a.pos a.start a.end c.min-top.result.0 c.max-bottom.result.0 c.min-left.result.0 c.max-right.result.0 c.min-top.ensures c.max-bottom.ensures c.min-left.ensures c.max-right.ensures c.if-pos-top.false c.if-right-pos.false
+pub returns-then-lt-4 : goal.returns-then-lt-4
+returns-then-lt-4 c =
+    let a = c.args in
+    block_right a.pos a.start a.end c.min-top.result.0 c.max-bottom.result.0 c.min-left.result.0 c.max-right.result.0 c.min-top.ensures c.max-bottom.ensures c.min-left.ensures c.max-right.ensures
+    (grind (arith, nat_tests)) (grind (arith, nat_tests))

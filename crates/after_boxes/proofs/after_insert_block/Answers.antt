@@ -1,19 +1,13 @@
-use Rattle.after.proofs.Rectangles.{not-above, small_at, put-outside, put-below, put-moved}
-use Prim.Native.Nat.{◌-◌}
-use native.Mathlib.Omega.{arith}
+-- Answered here, and not by the attribute, so that a wrong program is refused by a law and not at a limit.
+use Rattle.std.proofs.Common.{◌≡◌, ◌∙◌, ◌-◌, ◌+◌, ◌<◌, ℕ, ap, arith, length, get_or}
+use Rattle.std.proofs.lemmas.Bool.Decides.{nat_tests}
+use Rattle.text.specs.Rows.{at}
+use Rattle.after.proofs.Rectangles.{put-moved}
 use Rattle.after_boxes.proofs.after_insert_block.Goals as goal
 
-pub returns-then-row-top : goal.returns-then-row-top
-returns-then-row-top c = let a = c.args in put-outside a.pos a.at a.lens.now c.if-row-top.true
-
-pub overflow_sub-k : goal.overflow_sub-k
-overflow_sub-k c = let a = c.args in omega (arith, not-above a.pos a.at a.lens.now _ c.if-row-top.false)
-
-pub returns-then-lens-k : goal.returns-then-lens-k
-returns-then-lens-k c = let a = c.args in put-below a.pos a.at a.lens.now c.if-row-top.false c.if-lens-k.true
-
-pub overflow_add-result : goal.overflow_add-result
-overflow_add-result c = let a = c.args in omega (arith, c.requires.0, small_at a.lens.now (a.pos.row.0 - a.at.row.0) c.if-lens-k.false c.requires.1)
-
 pub returns : goal.returns
-returns c = let a = c.args in put-moved a.pos a.at a.lens.now c.if-row-top.false c.if-lens-k.false
+returns c =
+    let a = c.args in
+    let within : a.pos.row.0 - a.at.row.0 < length a.lens.now = grind (arith, nat_tests) in
+    let moved : c.in-Some.len.now ≡ get_or a.lens.now (a.pos.row.0 - a.at.row.0) 0 = grind (arith, nat_tests) in
+    ap (λ (n : ℕ). at a.pos.row.0 (a.pos.col.0 + n)) moved ∙ put-moved a.pos a.at a.lens.now (grind (arith, nat_tests)) within

@@ -30,4 +30,4 @@ pub overflow_add-result-5 : goal.overflow_add-result-5
 overflow_add-result-5 c = omega (arith, scan_within c.args.text.now c.args.begin.0 _ c.line_char_count-len.ensures (omega (arith, start-le is_lf c.args.text.now c.args.pos.row.0, c.requires.2)), c.requires.0)
 
 pub returns : goal.returns
-returns c = cut_found c.args.text.now c.args.pos c.args.width c.args.pad c.args.begin.0 c.line_char_count-len.result.0 c.requires.1 c.requires.2 c.line_char_count-len.ensures _ _ _ _ c.min.ensures c.min-left.ensures c.min-chunk.ensures c.min-wide.ensures
+returns c = cut_found c.args.text.now c.args.pos c.args.width c.args.pad c.args.begin.0 c.line_char_count-len.result.0 c.requires.1 c.requires.2 c.line_char_count-len.ensures c.min-left.result.0 _ _ (omega arith) c.min-chunk.ensures c.min-wide.ensures

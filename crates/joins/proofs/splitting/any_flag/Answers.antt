@@ -1,16 +1,14 @@
-use Rattle.joins.proofs.SplitRows.{any-yes, any-no, any-end}
-use mathlib.Core.Path.{refl, sym, ◌∙◌}
-use native.Mathlib.Omega.{arith}
+use Rattle.std.proofs.Common.{rules, not, ◌||◌, eqb, refl, ℕ, ◌∙◌}
+use Rattle.std.proofs.lemmas.Iterator.{YieldsList-from_slice}
+use Rattle.std.proofs.lemmas.Iterator.Search.{any_from_yields_List}
+use Rattle.std.proofs.lemmas.List.Recursion.{same_from_clauses}
+use Rattle.std.specs.List.{list_any}
+use borrow.Author.Tests.{tests}
+use Rattle.edit.specs.Edits.{any_flag}
 use Rattle.joins.proofs.splitting.any_flag.Goals as goal
 
-pub loop-i-init : goal.loop-i-init
-loop-i-init c = (omega arith, refl)
-
-pub returns-then-flags-i-ne0 : goal.returns-then-flags-i-ne0
-returns-then-flags-i-ne0 c = let l = c.loop-i in sym (any-yes c.args.flags.now l.i (omega arith) c.if-flags-i-ne0.true) ∙ l.invariant.1
-
-pub loop-i-preserved : goal.loop-i-preserved
-loop-i-preserved c = let l = c.loop-i in (omega arith, sym (any-no c.args.flags.now l.i (omega arith) c.if-flags-i-ne0.false) ∙ l.invariant.1)
-
 pub returns : goal.returns
-returns c = let l = c.loop-i in sym (any-end c.args.flags.now l.i (omega arith)) ∙ l.invariant.1
+unfolding any_flag
+returns c =
+    any_from_yields_List (λ (f : ℕ). not (eqb f 0)) _ _ c.any.result c.any.ensures.ran (YieldsList-from_slice c.args.flags.now cc) (λ x b q k. search (rules, tests))
+    ∙ same_from_clauses (list_any (λ (f : ℕ). not (eqb f 0))) any_flag (λ f r. not (eqb f 0) || r) refl (λ _ _. refl) (λ _ _. refl) c.args.flags.now

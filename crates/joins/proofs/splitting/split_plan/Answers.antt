@@ -10,9 +10,6 @@ use Rattle.joins.proofs.splitting.split_plan.Goals as goal
 pub loop-k-init : goal.loop-k-init
 loop-k-init c = let a = c.args in let w = span-within a.text.now a.found.row.0 a.found c.requires.1 in (omega arith, w.0, w.1, omega arith, counting_none a.text.now a.cols.now a.flags.now a.found.start.0 a.found.end.0)
 
-pub split_turn-turn-requires : goal.split_turn-turn-requires
-split_turn-turn-requires c = let l = c.loop-k in (l.invariant.1, l.invariant.2)
-
 bounds : (c : After-split_turn-turn) → (c.args.found.start.0 ≤ c.split_turn-turn.result.at.0) × (c.split_turn-turn.result.at.0 + c.split_turn-turn.result.gone ≤ c.loop-k.end) × (c.split_turn-turn.result.gone ≤ 1)
 bounds c = let a = c.args in let l = c.loop-k in turn_bounds a.text.now a.found.start.0 l.end (get_or a.cols.now (l.k - 1) 0) c.flag_at-flag.result l.invariant.1 l.invariant.2 c.split_turn-turn.result c.split_turn-turn.ensures
 

@@ -11,9 +11,6 @@ use Rattle.joins.proofs.splitting.split_row.Goals as goal
 pub loop-k-init : goal.loop-k-init
 loop-k-init c = let a = c.args in let w = span-within (take a.used a.text.now) a.found.row.0 a.found c.requires.1 in (omega arith, w.0, omega (arith, w.1, length-take a.used a.text.now), c.requires.0, refl, putting_none a.text.now a.cols.now a.flags.now a.used a.found.start.0 a.found.end.0 c.requires.0)
 
-pub split_turn-turn-requires : goal.split_turn-turn-requires
-split_turn-turn-requires c = let l = c.loop-k in (l.invariant.1, simp (length-take, length-drop) (omega arith))
-
 bounds : (c : After-split_turn-turn) → (c.args.found.start.0 ≤ c.split_turn-turn.result.at.0) × (c.split_turn-turn.result.at.0 + c.split_turn-turn.result.gone ≤ c.loop-k.end) × (c.split_turn-turn.result.gone ≤ 1)
 bounds c = let a = c.args in let l = c.loop-k in turn_bounds (take (l.n - 0) (drop 0 l.text)) a.found.start.0 l.end (get_or a.cols.now (l.k - 1) 0) c.flag_at-flag.result l.invariant.1 (simp (length-take, length-drop) (omega arith)) c.split_turn-turn.result c.split_turn-turn.ensures
 
