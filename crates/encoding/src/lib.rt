@@ -74,22 +74,18 @@ pub fn count_octets(scalars: &[u32]) -> OctetCount
     ensures { paper_octet_count result ≡ octet_count scalars.now }
 {
     let mut count = 0;
-    let mut i = 0;
-    while i < scalars.len() {
-        let value = scalars[i];
+    for value in scalars {
+        let value = *value;
         if value <= 0x7F {
             count += 1;
-            i += 1;
         } else if (0x7FF < value) & (value <= 0xD7FF) {
             count += 3;
-            i += 1;
         } else {
             let len = octet_len(sequence_of(value));
             if len == 0 {
                 return OctetCount::BadText;
             }
             count += len;
-            i += 1;
         }
     }
     OctetCount::Octets(count)
@@ -135,23 +131,19 @@ pub fn fill_octets(scalars: &[u32], out: &mut [u8])
     ensures { out.new ≡ over (writing scalars.now) out.old }
 {
     let mut at = ByteOffset(0);
-    let mut i = 0;
-    while i < scalars.len() {
-        let value = scalars[i];
+    for value in scalars {
+        let value = *value;
         let start = at.0;
         if value <= 0x7F {
             out[start] = value as u8;
             at = ByteOffset(start + 1);
-            i += 1;
         } else if (0x7FF < value) & (value <= 0xFFFF) {
             out[start] = lead_of_three(value);
             out[start + 1] = tail(value / 64);
             out[start + 2] = tail(value);
             at = ByteOffset(start + 3);
-            i += 1;
         } else {
             at = put(out, at, sequence_of(value));
-            i += 1;
         }
     }
 }
