@@ -10,7 +10,7 @@ ghost use Rattle.promise.specs.Slices.{over};
 ghost use Rattle.utf8.specs.Calls.{outcome, scalars_of, Fillable, counted, decoded};
 
 use sequences::{
-    is_three, leading_ones, number_of_four, number_of_three, number_of_two, read_scalar, wide,
+    is_three, leading_ones, number_of_four, number_of_three, number_of_two, read_scalar,
 };
 use utf8::{ByteOffset, Decoded, ScalarCount, Step};
 
@@ -20,10 +20,8 @@ fn is_block(bytes: &[u8], start: usize) -> bool
     ensures { result ≡ true → (k : ℕ) → k < 16 → get_or bytes.now (start + k) 0 ≤ 0x7F }
 {
     let mut all = true;
-    let mut k = 0;
-    while k < 16 {
-        all = all & (bytes[start + k] <= 0x7F);
-        k += 1;
+    for x in &bytes[start..start + 16] {
+        all &= *x <= 0x7F;
     }
     all
 }
@@ -45,10 +43,8 @@ fn widen_block(bytes: &[u8], start: usize, out: &mut [u32], count: usize)
     requires { (start + 16 ≤ length bytes.now) × (count + 16 ≤ length out.old) }
     ensures { out.new ≡ paste out.old count (drop start bytes.now) 16 }
 {
-    let mut k = 0;
-    while k < 16 {
-        out[count + k] = wide(bytes[start + k]);
-        k += 1;
+    for (k, x) in bytes[start..start + 16].iter().enumerate() {
+        out[count + k] = u32::from(*x);
     }
 }
 
@@ -117,7 +113,7 @@ fn fill_scalars(bytes: &[u8], out: &mut [u32])
                 at = ByteOffset(start + 16);
                 count += 16;
             } else {
-                out[count] = wide(lead);
+                out[count] = u32::from(lead);
                 at = ByteOffset(start + 1);
                 count += 1;
             }

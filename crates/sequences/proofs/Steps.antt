@@ -7,9 +7,9 @@ use native.Mathlib.Omega.{arith}
 use borrow.Author.Tests.{ne_eqb, eqb-true}
 use lib.Count.{count_leading_zeros}
 use lib.Dec.{eqb}
-use lib.ListN.{length, take, drop, get_or, length-drop, drop_of_length-le}
+use lib.ListN.{length, take, drop, get_or, length-take, length-drop, drop_of_length-le}
 use lib.Seq.{take_at, drop-drop}
-use Rattle.promise.proofs.Lists.{next, next-3}
+use Rattle.promise.proofs.Lists.{next, next-2, next-3, next-4, tail_whole}
 use Rattle.promise.specs.Paper.{done, refused}
 use Rattle.utf8.specs.Rfc3629.{Range, UTF8-3, UTF8-char, taken, number}
 use Rattle.utf8.specs.Lead.{announced}
@@ -34,6 +34,23 @@ module _ (rule : List (List Range)) (s p q : List ℕ) (i n : ℕ) (r : Bool) (d
 pub cut_off : (n : ℕ) (rule : List (List Range)) (s : List ℕ) (i : ℕ) → long_rows n rule ≡ true → length s - i < n → refused 5 i ≡ step_by rule s i
 unfolding stepped
 cut_off n rule s i e h = rw (taken-short n rule (drop i s) e (simp length-drop h))
+
+-- What is left of s from i on, as it is lent.
+module _ (s : List ℕ) (i : ℕ) where
+  abbrev pub left : List ℕ
+  left = take (length s - i) (drop i s)
+
+  pub left-2 : 2 ≤ length left → drop i s ≡ get_or left 0 0 ∷ get_or left 1 0 ∷ drop 2 left
+  left-2 h = sym (tail_whole s i) ∙ next-2 left 0 h
+
+  pub left-3 : 3 ≤ length left → drop i s ≡ get_or left 0 0 ∷ get_or left 1 0 ∷ get_or left 2 0 ∷ drop 3 left
+  left-3 h = sym (tail_whole s i) ∙ next-3 left 0 h
+
+  pub left-4 : 4 ≤ length left → drop i s ≡ get_or left 0 0 ∷ get_or left 1 0 ∷ get_or left 2 0 ∷ get_or left 3 0 ∷ drop 4 left
+  left-4 h = sym (tail_whole s i) ∙ next-4 left 0 h
+
+  pub left-short : (n : ℕ) (rule : List (List Range)) → long_rows n rule ≡ true → length left < n → refused 5 i ≡ step_by rule s i
+  left-short n rule e h = cut_off n rule s i e (omega (arith, length-take (length s - i) (drop i s), length-drop i s))
 
 -- A step by the rule that the lead announces is a step.
 pub announces : (s : List ℕ) (i o : ℕ) → i < length s → get_or s i 0 < 256 → o ≡ count_leading_zeros 8 (255 - get_or s i 0)

@@ -11,7 +11,7 @@ returns-then-bytes-start c = let s = c.args.bytes.now in let i = c.args.at.0 in 
 pub returns-then-ones-eq0 : goal.returns-then-ones-eq0
 returns-then-ones-eq0 c = let s = c.args.bytes.now in let i = c.args.at.0 in
     let b = no_ones _ (c.shared_slice_known-2-1.given i).fits (sym c.leading_ones-ones.ensures ∙ c.if-ones-eq0.true) in
-    ascii s i _ c.if-bytes-start.false b c.wide.ensures
+    ascii s i _ c.if-bytes-start.false b c.from.ensures
 
 pub returns : goal.returns
 returns c = let s = c.args.bytes.now in let i = c.args.at.0 in
