@@ -66,6 +66,7 @@ pub fn count_scalars(bytes: &[u8]) -> ScalarCount
 {
     let mut count = 0;
     let mut at = ByteOffset(0);
+    // A cursor: each turn moves it by what it read.
     while at.0 < bytes.len() {
         let start = at.0;
         let ones = leading_ones(bytes[start]);
@@ -103,6 +104,7 @@ fn fill_scalars(bytes: &[u8], out: &mut [u32])
 {
     let mut count = 0;
     let mut at = ByteOffset(0);
+    // A cursor: each turn moves it by what it read.
     while at.0 < bytes.len() {
         let start = at.0;
         let lead = bytes[start];

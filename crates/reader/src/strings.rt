@@ -68,6 +68,7 @@ fn count_chunks(strings: &[u8]) -> Tally
     let mut at = 0;
     let mut chunks = 0;
     let mut chars = 0;
+    // A cursor: each turn moves it by what it read.
     while at < strings.len() {
         let length = number_at(strings, ByteOffset(at)) as usize;
         let start = at + 4;
@@ -108,6 +109,7 @@ fn fill_chunks(strings: &[u8], payload: &mut [u32], first: &mut [u32])
     let mut at = 0;
     let mut chunks = 0;
     let mut chars = 0;
+    // A cursor: each turn moves it by what it read.
     while at < strings.len() {
         let length = number_at(strings, ByteOffset(at)) as usize;
         let start = at + 4;
