@@ -76,25 +76,36 @@ pub fn number_of_four(a: u8, b: u8, c: u8, d: u8) -> u32
     ((u32::from(a) % 8 * 64 + u32::from(b) % 64) * 64 + u32::from(c) % 64) * 64 + u32::from(d) % 64
 }
 
-// A sequence of more than one octet, by its lead's leading one bits.
+// A sequence of more than one octet, by its lead's leading one bits. Each arm takes its own slice: with one slice before them the
+// arms make no jump table where this is called.
 fn read_long(bytes: &[u8], start: usize, ones: u32) -> Step
     requires { (start < length bytes.now) × (0 < ones) }
     ensures { paper_step result ≡ step_by (announced ones) bytes.now start }
 {
-    match (ones, &bytes[start..]) {
-        (2, [a, b, ..]) if is_two(*a, *b) => Step::Scalar {
-            value: number_of_two(*a, *b),
-            next: ByteOffset(start + 2),
+    let bad = Step::BadUtf8(ByteOffset(start));
+    match ones {
+        2 => match &bytes[start..] {
+            [a, b, ..] if is_two(*a, *b) => Step::Scalar {
+                value: number_of_two(*a, *b),
+                next: ByteOffset(start + 2),
+            },
+            _ => bad,
         },
-        (3, [a, b, c, ..]) if is_three(*a, *b, *c) => Step::Scalar {
-            value: number_of_three(*a, *b, *c),
-            next: ByteOffset(start + 3),
+        3 => match &bytes[start..] {
+            [a, b, c, ..] if is_three(*a, *b, *c) => Step::Scalar {
+                value: number_of_three(*a, *b, *c),
+                next: ByteOffset(start + 3),
+            },
+            _ => bad,
         },
-        (4, [a, b, c, d, ..]) if is_four(*a, *b, *c, *d) => Step::Scalar {
-            value: number_of_four(*a, *b, *c, *d),
-            next: ByteOffset(start + 4),
+        4 => match &bytes[start..] {
+            [a, b, c, d, ..] if is_four(*a, *b, *c, *d) => Step::Scalar {
+                value: number_of_four(*a, *b, *c, *d),
+                next: ByteOffset(start + 4),
+            },
+            _ => bad,
         },
-        _ => Step::BadUtf8(ByteOffset(start)),
+        _ => bad,
     }
 }
 
