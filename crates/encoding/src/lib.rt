@@ -103,21 +103,15 @@ fn put(out: &mut [u8], at: ByteOffset, sequence: Sequence) -> ByteOffset
             ByteOffset(start + 1)
         }
         Sequence::Two(a, b) => {
-            out[start] = a;
-            out[start + 1] = b;
+            out[start..start + 2].copy_from_slice(&[a, b]);
             ByteOffset(start + 2)
         }
         Sequence::Three(a, b, c) => {
-            out[start] = a;
-            out[start + 1] = b;
-            out[start + 2] = c;
+            out[start..start + 3].copy_from_slice(&[a, b, c]);
             ByteOffset(start + 3)
         }
         Sequence::Four(a, b, c, d) => {
-            out[start] = a;
-            out[start + 1] = b;
-            out[start + 2] = c;
-            out[start + 3] = d;
+            out[start..start + 4].copy_from_slice(&[a, b, c, d]);
             ByteOffset(start + 4)
         }
         Sequence::BadText => at,
