@@ -132,9 +132,8 @@ pub fn fill_octets(scalars: &[u32], out: &mut [u8])
             out[start] = value as u8;
             at = ByteOffset(start + 1);
         } else if (0x7FF < value) & (value <= 0xFFFF) {
-            out[start] = lead_of_three(value);
-            out[start + 1] = tail(value / 64);
-            out[start + 2] = tail(value);
+            let octets = [lead_of_three(value), tail(value / 64), tail(value)];
+            out[start..start + 3].copy_from_slice(&octets);
             at = ByteOffset(start + 3);
         } else {
             at = put(out, at, sequence_of(value));

@@ -1,6 +1,6 @@
 use mathlib.Core.Path.{◌≡◌}
 use Prim.Native.Nat.{◌≤◌, ◌*◌}
-use lib.ListN.{length, drop}
+use lib.ListN.{drop}
 use Rattle.encoding.proofs.Counts.{counting}
 use Rattle.utf8.specs.Calls.{octet_count}
 use Rattle.encoding.proofs.count_octets.Given as goal

@@ -1,8 +1,9 @@
-use mathlib.Core.Path.{refl}
-use Prim.Native.Nat.{◌+◌, ◌≤◌, ◌<◌}
+use mathlib.Core.List.{[], ◌∷◌}
+use mathlib.Core.Path.{refl, ◌∙◌}
+use Prim.Native.Nat.{◌+◌, ◌≤◌}
 use native.Mathlib.Omega.{arith}
-use lib.ListN.{length, get_or, length-set}
-use Rattle.encoding.proofs.Fills.{one-room, one_again, three_room, three_again, fill_room, fill_again, fill_all}
+use lib.ListN.{length, get_or}
+use Rattle.encoding.proofs.Fills.{one-room, one_again, three_room, three_again, fill_room, fill_again, exchanged, fill_all}
 use Rattle.encoding.proofs.Sequences.{between}
 use Rattle.utf8.specs.Reading.{writing}
 use Rattle.encoding.proofs.fill_octets.Goals as goal
@@ -29,23 +30,8 @@ overflow_add-at c = let k = one_fits (goal.at.overflow_add-at c).Then-value-le12
 pub lead_of_three-requires : goal.lead_of_three-requires
 lead_of_three-requires c = (between 0x7FF 0xFFFF (get_or c.args.scalars.now c.loop-value.value-index 0) c.if-value.true).1
 
-pub bounds-out-start-then-value : goal.bounds-out-start-then-value
-bounds-out-start-then-value c = let k = three_fit (goal.at.bounds-out-start-then-value c).Then-value in omega arith
-
-pub overflow_add-out : goal.overflow_add-out
-overflow_add-out c = let k = three_fit (goal.at.overflow_add-out c).Then-value in omega arith
-
-pub bounds-out-start-then-value-2 : goal.bounds-out-start-then-value-2
-bounds-out-start-then-value-2 c = let k = three_fit (goal.at.bounds-out-start-then-value-2 c).Then-value in simp length-set (omega arith)
-
-pub overflow_add-out-then-value : goal.overflow_add-out-then-value
-overflow_add-out-then-value c = let k = three_fit (goal.at.overflow_add-out-then-value c).Then-value in omega arith
-
-pub bounds-out-start-then-value-3 : goal.bounds-out-start-then-value-3
-bounds-out-start-then-value-3 c = let k = three_fit (goal.at.bounds-out-start-then-value-3 c).Then-value in simp length-set (omega arith)
-
-pub overflow_add-at-then-value : goal.overflow_add-at-then-value
-overflow_add-at-then-value c = let k = three_fit (goal.at.overflow_add-at-then-value c).Then-value in omega arith
+pub slice_bounds-copy_from_slice-end : goal.slice_bounds-copy_from_slice-end
+slice_bounds-copy_from_slice-end c = let k = three_fit (goal.at.slice_bounds-copy_from_slice-end c).Then-value in omega arith
 
 pub put-at-requires : goal.put-at-requires
 put-at-requires c = let l = c.loop-value in let a = c.args in
@@ -59,7 +45,10 @@ loop-value-preserved c = let l = c.loop-value in let a = c.args in let s = a.sca
           rw (w.out-is, w.at-is) (one_again s a.out.now l.out i l.at.0 c.loop-value-test.true l.invariant.1 l.invariant.2 c.requires.1 w.if-value-le127.true l.invariant.3)
       | else-value-le127+then-value w ↦
           let v = between 0x7FF 0xFFFF (get_or s i 0) w.if-value.true in
-          rw (w.out-is, w.at-is) (three_again s a.out.now l.out i l.at.0 c.loop-value-test.true l.invariant.1 l.invariant.2 c.requires.1 v.0 v.1 _ _ _ w.lead_of_three.ensures w.tail.ensures w.tail-then-value.ensures l.invariant.3)
+          let m = three_room s a.out.now l.out i l.at.0 c.loop-value-test.true l.invariant.1 l.invariant.2 c.requires.1 v.0 v.1 in
+          let t = three_again s a.out.now l.out i l.at.0 c.loop-value-test.true l.invariant.1 l.invariant.2 c.requires.1 v.0 v.1 _ _ _ w.lead_of_three.ensures w.tail.ensures w.tail-then-value.ensures l.invariant.3 in
+          let q = exchanged l.out (w.lead_of_three.result ∷ w.tail.result ∷ w.tail-then-value.result ∷ []) _ l.at.0 _ w.copy_from_slice.ensures.after (omega arith) (omega arith) in
+          rw (w.out-is, w.at-is) (t.0, t.1, t.2, q ∙ t.3)
       | else-value-le127+else-value w ↦
           let t = fill_again s a.out.now l.out i l.at.0 _ c.loop-value-test.true w.sequence_of.ensures l.invariant.1 l.invariant.2 c.requires.1 l.invariant.3 in
           let k = fill_room s a.out.now l.out i l.at.0 _ c.loop-value-test.true w.sequence_of.ensures l.invariant.1 l.invariant.2 c.requires.1 in
