@@ -53,10 +53,10 @@ fn starts_three(bytes: &[u8], start: usize) -> bool
     requires { start < length bytes.now }
     ensures { result ≡ eqb (taken UTF8-3 (drop start bytes.now)) 3 }
 {
-    if bytes.len() - start < 3 {
-        return false;
+    match &bytes[start..] {
+        [a, b, c, ..] => is_three(*a, *b, *c),
+        _ => false,
     }
-    is_three(bytes[start], bytes[start + 1], bytes[start + 2])
 }
 
 // How many scalars the bytes hold. By its lead's leading one bits a sequence of one or three octets is read here, and any other by

@@ -67,16 +67,17 @@ unfolding number
 ascii s i v h k f = found UTF8-char s (get_or s i 0 ∷ []) (drop (i + 1) s) i 0 true (next s i h) refl (takes-1 (get_or s i 0) (drop (i + 1) s) k) v refl f
 
 -- UTF8-3 tested where it stands
-pub three_cut : (s : List ℕ) (i : ℕ) → length s - i < 3 → false ≡ eqb (taken UTF8-3 (drop i s)) 3
-three_cut s i h = rw (taken-short 3 UTF8-3 (drop i s) refl (simp length-drop h))
+module _ (s : List ℕ) (i : ℕ) where
+  pub three_cut : length (left s i) < 3 → false ≡ eqb (taken UTF8-3 (drop i s)) 3
+  three_cut h = rw (taken-short 3 UTF8-3 (drop i s) refl (omega (arith, length-take (length s - i) (drop i s), length-drop i s)))
 
-pub three_tested : (s : List ℕ) (i : ℕ) (r : Bool) → i + 2 < length s → ((q : List ℕ) → taken UTF8-3 (get_or s i 0 ∷ get_or s (i + 1) 0 ∷ get_or s (i + 2) 0 ∷ q) ≡ cond r 3 0)
-    → r ≡ eqb (taken UTF8-3 (drop i s)) 3
-three_tested s i r h t = rw (next-3 s i h, t (drop (i + 3) s)) (go r)
-  where
-    go : (b : Bool) → b ≡ eqb (cond b 3 0) 3
-    go true = refl
-    go false = refl
+  pub three_tested : (r : Bool) → 3 ≤ length (left s i) → ((q : List ℕ) → taken UTF8-3 (get_or (left s i) 0 0 ∷ get_or (left s i) 1 0 ∷ get_or (left s i) 2 0 ∷ q) ≡ cond r 3 0)
+      → r ≡ eqb (taken UTF8-3 (drop i s)) 3
+  three_tested r h t = rw (left-3 s i h, t (drop 3 (left s i))) (go r)
+    where
+      go : (b : Bool) → b ≡ eqb (cond b 3 0) 3
+      go true = refl
+      go false = refl
 
 -- and where its lead announces it
 module _ (s : List ℕ) (i o : ℕ) (h : i < length s) (k : get_or s i 0 < 256) (e : o ≡ count_leading_zeros 8 (255 - get_or s i 0)) (q : o ≡ 3) where
