@@ -186,8 +186,8 @@ fn head_by(kind: u8, bytes: &[u8]) -> Head
 pub fn head_of(bytes: &[u8]) -> Head
     ensures { result ≡ head_of (form_of bytes.now) }
 {
-    if bytes.len() == 0 {
-        return Head::Malformed;
+    match bytes {
+        [kind, ..] => head_by(*kind, bytes),
+        [] => Head::Malformed,
     }
-    head_by(bytes[0], bytes)
 }

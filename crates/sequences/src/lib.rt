@@ -114,14 +114,13 @@ pub fn read_scalar(bytes: &[u8], at: ByteOffset) -> Step
     ensures { paper_step result ≡ step_by UTF8-char bytes.now at.0 }
 {
     let start = at.0;
-    if bytes.len() <= start {
+    let Some(lead) = bytes.get(start) else {
         return Step::BadUtf8(at);
-    }
-    let lead = bytes[start];
-    let ones = leading_ones(lead);
+    };
+    let ones = leading_ones(*lead);
     if ones == 0 {
         return Step::Scalar {
-            value: u32::from(lead),
+            value: u32::from(*lead),
             next: ByteOffset(start + 1),
         };
     }
