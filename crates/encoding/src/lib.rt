@@ -74,8 +74,7 @@ pub fn count_octets(scalars: &[u32]) -> OctetCount
     ensures { paper_octet_count result ≡ octet_count scalars.now }
 {
     let mut count = 0;
-    for value in scalars {
-        let value = *value;
+    for &value in scalars {
         if value <= 0x7F {
             count += 1;
         } else if (0x7FF < value) & (value <= 0xD7FF) {
@@ -125,8 +124,7 @@ pub fn fill_octets(scalars: &[u32], out: &mut [u8])
     ensures { out.new ≡ over (writing scalars.now) out.old }
 {
     let mut at = ByteOffset(0);
-    for value in scalars {
-        let value = *value;
+    for &value in scalars {
         let start = at.0;
         if value <= 0x7F {
             out[start] = value as u8;
