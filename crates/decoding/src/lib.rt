@@ -14,7 +14,7 @@ use sequences::{
 };
 use utf8::{ByteOffset, Decoded, ScalarCount, Step};
 
-// Whether the sixteen octets from `start` on are ASCII.
+// Whether the sixteen octets from `start` on are ASCII. Looks at every one: without an early exit the loop is vectorised.
 fn is_block(bytes: &[u8], start: usize) -> bool
     requires { start + 16 ≤ length bytes.now }
     ensures { result ≡ true → (k : ℕ) → k < 16 → get_or bytes.now (start + k) 0 ≤ 0x7F }
