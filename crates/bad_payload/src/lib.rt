@@ -8,14 +8,13 @@ ghost use Rattle.edit.specs.Refusals.{sum, payload_ok};
 use edit::Edit;
 use text::{LF, all_admissible};
 
+// Looks at every character: without an early exit the loop is vectorised.
 fn no_lf(payload: &[u32]) -> bool
     ensures { result ≡ all (λ c. not (is_lf c)) payload.now }
 {
     let mut plain = true;
-    let mut i = 0;
-    while i < payload.len() {
-        plain = plain & (payload[i] != LF);
-        i += 1;
+    for x in payload {
+        plain &= *x != LF;
     }
     plain
 }
@@ -25,14 +24,12 @@ pub fn sums_to(list: &[u32], total: usize) -> bool
     ensures { result ≡ eqb (sum list.now) total }
 {
     let mut left = total;
-    let mut i = 0;
-    while i < list.len() {
-        let item = list[i] as usize;
+    for item in list {
+        let item = *item as usize;
         if left < item {
             return false;
         }
         left -= item;
-        i += 1;
     }
     left == 0
 }

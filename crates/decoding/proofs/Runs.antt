@@ -9,8 +9,8 @@ use native.Mathlib.Numerals.{add-one}
 use native.Mathlib.Omega.{arith}
 use borrow.Author.Tests.{leb-true, ltb-false}
 use lib.Dec.{leb, ltb}
-use lib.ListN.{length, take, drop, get_or, set, length-drop}
-use lib.Seq.{get_or-drop, paste, paste-zero, paste-suc}
+use lib.ListN.{length, take, drop, get_or, set, length-take, length-drop}
+use lib.Seq.{get_or-drop, get_or-take, paste, paste-zero, paste-suc}
 use Rattle.promise.proofs.Bools.{both, neither}
 use Rattle.utf8.specs.Reading.{scalars, read_from}
 use Rattle.sequences.proofs.Steps.{ascii, step-done}
@@ -21,9 +21,17 @@ use Rattle.decoding.proofs.Fills.{fill_again}
 abbrev pub Ascii : List ℕ → ℕ → ℕ → Type 0
 Ascii s i n = (k : ℕ) → k < n → get_or s (i + k) 0 ≤ 0x7F
 
-pub ascii_more : (s : List ℕ) (i n : ℕ) (all : Bool) → (all ≡ true → Ascii s i n) → (all && leb (get_or s (i + n) 0) 0x7F) ≡ true → Ascii s i (n + 1)
-ascii_more s i n all f e k h =
-    let b = both all (leb (get_or s (i + n) 0) 0x7F) e in
+-- the n octets from i on, as they are lent
+module _ (s : List ℕ) (i n : ℕ) (h : i + n ≤ length s) where
+  pub lent_long : length (take (i + n - i) (drop i s)) ≡ n
+  lent_long = omega (arith, length-take (i + n - i) (drop i s), length-drop i s)
+
+  pub lent_at : (k : ℕ) → k < n → get_or (take (i + n - i) (drop i s)) k 0 ≡ get_or s (i + k) 0
+  lent_at k l = let e : k < i + n - i = omega arith in rw (get_or-take, get_or-drop)
+
+pub ascii_more : (s : List ℕ) (i n x : ℕ) (all : Bool) → x ≡ get_or s (i + n) 0 → (all ≡ true → Ascii s i n) → (all && leb x 0x7F) ≡ true → Ascii s i (n + 1)
+ascii_more s i n x all d f e k h =
+    let b = both all (leb (get_or s (i + n) 0) 0x7F) (rw d at e) in
     ⊎_elim (λ q. rw q (leb-true _ _ b.1)) (λ lt. f b.0 k lt) (eq-or-lt_of_le {n = k} {m = n} (omega arith))
 
 -- they are the scalars that they count and fill

@@ -10,20 +10,18 @@ ghost use Rattle.promise.specs.Slices.{over};
 ghost use Rattle.utf8.specs.Calls.{outcome, scalars_of, Fillable, counted, decoded};
 
 use sequences::{
-    is_three, leading_ones, number_of_four, number_of_three, number_of_two, read_scalar, wide,
+    is_three, leading_ones, number_of_four, number_of_three, number_of_two, read_scalar,
 };
 use utf8::{BadUtf8, ByteOffset, DecodeError};
 
-// Whether the sixteen octets from `start` on are ASCII.
+// Whether the sixteen octets from `start` on are ASCII. Looks at every one: without an early exit the loop is vectorised.
 fn is_block(bytes: &[u8], start: usize) -> bool
     requires { start + 16 ≤ length bytes.now }
     ensures { result ≡ true → (k : ℕ) → k < 16 → get_or bytes.now (start + k) 0 ≤ 0x7F }
 {
     let mut all = true;
-    let mut k = 0;
-    while k < 16 {
-        all = all & (bytes[start + k] <= 0x7F);
-        k += 1;
+    for x in &bytes[start..start + 16] {
+        all &= *x <= 0x7F;
     }
     all
 }
@@ -45,10 +43,8 @@ fn widen_block(bytes: &[u8], start: usize, out: &mut [u32], count: usize)
     requires { (start + 16 ≤ length bytes.now) × (count + 16 ≤ length out.old) }
     ensures { out.new ≡ paste out.old count (drop start bytes.now) 16 }
 {
-    let mut k = 0;
-    while k < 16 {
-        out[count + k] = wide(bytes[start + k]);
-        k += 1;
+    for (k, x) in bytes[start..start + 16].iter().enumerate() {
+        out[count + k] = u32::from(*x);
     }
 }
 
@@ -57,10 +53,10 @@ fn starts_three(bytes: &[u8], start: usize) -> bool
     requires { start < length bytes.now }
     ensures { result ≡ eqb (taken UTF8-3 (drop start bytes.now)) 3 }
 {
-    if bytes.len() - start < 3 {
-        return false;
+    match &bytes[start..] {
+        [a, b, c, ..] => is_three(*a, *b, *c),
+        _ => false,
     }
-    is_three(bytes[start], bytes[start + 1], bytes[start + 2])
 }
 
 // How many scalars the bytes hold. By its lead's leading one bits a sequence of one or three octets is read here, and any other by
@@ -70,6 +66,7 @@ pub fn count_scalars(bytes: &[u8]) -> Result<usize, BadUtf8>
 {
     let mut count = 0;
     let mut at = ByteOffset(0);
+    // A cursor: each turn moves it by what it read.
     while at.0 < bytes.len() {
         let start = at.0;
         let ones = leading_ones(bytes[start]);
@@ -104,6 +101,7 @@ fn fill_scalars(bytes: &[u8], out: &mut [u32])
 {
     let mut count = 0;
     let mut at = ByteOffset(0);
+    // A cursor: each turn moves it by what it read.
     while at.0 < bytes.len() {
         let start = at.0;
         let lead = bytes[start];
@@ -114,7 +112,7 @@ fn fill_scalars(bytes: &[u8], out: &mut [u32])
                 at = ByteOffset(start + 16);
                 count += 16;
             } else {
-                out[count] = wide(lead);
+                out[count] = u32::from(lead);
                 at = ByteOffset(start + 1);
                 count += 1;
             }

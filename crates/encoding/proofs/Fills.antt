@@ -1,12 +1,13 @@
 -- The octets stored: at octet `at` the slice that was b has those of the scalars before i.
-use mathlib.Core.Path.{◌≡◌, ap, ◌∙◌}
+use mathlib.Core.Path.{◌≡◌, refl, sym, ap, ◌∙◌}
 use mathlib.Core.Bool.{true}
 use mathlib.Core.List.{List, [], ◌∷◌, ◌++◌}
 use Prim.Native.Nat.{ℕ, ◌+◌, ◌/◌, ◌%◌, ◌≤◌, ◌<◌}
-use native.Mathlib.Numerals.{add-one, add-two}
 use native.Mathlib.Omega.{arith}
 use lib.ListN.{length, take, drop, get_or, set, length-append, length-drop, drop_of_length-le}
-use lib.Seq.{sets}
+use lib.Seq.{sets, sets-eq, take-length}
+use borrow.Rule.Slice.PartMut.{put_mid}
+use Rattle.std.proofs.lemmas.Slice.{put_mid-paste}
 use Rattle.promise.specs.Paper.{Paper, done}
 use Rattle.promise.specs.Slices.{over}
 use Rattle.promise.proofs.Bools.{both}
@@ -87,11 +88,15 @@ module _ (cs b t : List ℕ) (i at : ℕ) (h : i < length cs) (all : all_scalar 
     three_room = fill_room cs b t i at three h three_is all d room
 
     pub three_again : (x y z : ℕ) → x ≡ 0b1110_0000 + get_or cs i 0 / 64 / 64 → y ≡ 0b10_000000 + get_or cs i 0 / 64 % 64 → z ≡ 0b10_000000 + get_or cs i 0 % 64
-        → t ≡ take at (writing cs) ++ drop at b → Written cs b i (at + 3) (set (set (set t at x) (at + 1) y) (at + 2) z)
+        → t ≡ take at (writing cs) ++ drop at b → Written cs b i (at + 3) (sets t at (x ∷ y ∷ z ∷ []))
     unfolding three
     three_again x y z ex ey ez inv =
         let r = fill_again cs b t i at three h three_is all d room inv in
-        (three_room, r.0, r.1, rw (ex, ey, ez, add-one at, add-two at) r.2)
+        (three_room, r.0, r.1, rw (ex, ey, ez) r.2)
+
+-- a part that was exchanged whole
+pub exchanged : (b os y : List ℕ) (i k : ℕ) → y ≡ os → length os ≡ k → i + k ≤ length b → put_mid i k b y ≡ sets b i os
+exchanged b os y i k e l h = put_mid-paste i k b y os (length os) e l refl ∙ rw (take-length os) (sym (sets-eq os b i (omega arith)))
 
 pub fill_all : (cs b t : List ℕ) (i at : ℕ) → length cs ≤ i → drop at (writing cs) ≡ writing (drop i cs) → at ≤ length (writing cs)
     → t ≡ take at (writing cs) ++ drop at b → t ≡ over (writing cs) b

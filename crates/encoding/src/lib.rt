@@ -73,18 +73,13 @@ pub fn count_octets(scalars: &[u32]) -> Result<usize, BadText>
     ensures { paper_octet_count result ≡ octet_count scalars.now }
 {
     let mut count = 0;
-    let mut i = 0;
-    while i < scalars.len() {
-        let value = scalars[i];
+    for &value in scalars {
         if value <= 0x7F {
             count += 1;
-            i += 1;
         } else if (0x7FF < value) & (value <= 0xD7FF) {
             count += 3;
-            i += 1;
         } else {
             count += octet_len(sequence_of(value)?);
-            i += 1;
         }
     }
     Ok(count)
@@ -102,21 +97,15 @@ fn put(out: &mut [u8], at: ByteOffset, sequence: Sequence) -> ByteOffset
             ByteOffset(start + 1)
         }
         Sequence::Two(a, b) => {
-            out[start] = a;
-            out[start + 1] = b;
+            out[start..start + 2].copy_from_slice(&[a, b]);
             ByteOffset(start + 2)
         }
         Sequence::Three(a, b, c) => {
-            out[start] = a;
-            out[start + 1] = b;
-            out[start + 2] = c;
+            out[start..start + 3].copy_from_slice(&[a, b, c]);
             ByteOffset(start + 3)
         }
         Sequence::Four(a, b, c, d) => {
-            out[start] = a;
-            out[start + 1] = b;
-            out[start + 2] = c;
-            out[start + 3] = d;
+            out[start..start + 4].copy_from_slice(&[a, b, c, d]);
             ByteOffset(start + 4)
         }
     }
@@ -129,23 +118,17 @@ pub fn fill_octets(scalars: &[u32], out: &mut [u8])
     ensures { out.new ≡ over (writing scalars.now) out.old }
 {
     let mut at = ByteOffset(0);
-    let mut i = 0;
-    while i < scalars.len() {
-        let value = scalars[i];
+    for &value in scalars {
         let start = at.0;
         if value <= 0x7F {
             out[start] = value as u8;
             at = ByteOffset(start + 1);
-            i += 1;
         } else if (0x7FF < value) & (value <= 0xFFFF) {
-            out[start] = lead_of_three(value);
-            out[start + 1] = tail(value / 64);
-            out[start + 2] = tail(value);
+            let octets = [lead_of_three(value), tail(value / 64), tail(value)];
+            out[start..start + 3].copy_from_slice(&octets);
             at = ByteOffset(start + 3);
-            i += 1;
         } else {
             at = put(out, at, sequence_of(value).unwrap());
-            i += 1;
         }
     }
 }

@@ -91,15 +91,7 @@ fn is_flagged(items: &[u8]) -> bool
     if items.len() % 5 != 0 {
         return false;
     }
-    let count = items.len() / 5;
-    let mut i = 0;
-    while i < count {
-        if 1 < items[i * 5 + 4] {
-            return false;
-        }
-        i += 1;
-    }
-    true
+    items.chunks_exact(5).all(|item| item[4] <= 1)
 }
 
 fn split_head(bytes: &[u8]) -> Head
@@ -131,6 +123,7 @@ fn is_cut(strings: &[u8]) -> bool
     ensures { result ≡ is_cut (strings_in strings.now) }
 {
     let mut at = 0;
+    // A cursor: each turn moves it by what it read.
     while at < strings.len() {
         let left = strings.len() - at;
         if left < 4 {
@@ -193,8 +186,8 @@ fn head_by(kind: u8, bytes: &[u8]) -> Head
 pub fn head_of(bytes: &[u8]) -> Head
     ensures { result ≡ head_of (form_of bytes.now) }
 {
-    if bytes.len() == 0 {
-        return Head::Malformed;
+    match bytes {
+        [kind, ..] => head_by(*kind, bytes),
+        [] => Head::Malformed,
     }
-    head_by(bytes[0], bytes)
 }

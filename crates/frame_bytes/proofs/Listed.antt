@@ -2,7 +2,7 @@
 use mathlib.Core.Path.{◌≡◌, refl, sym, ap, ◌∙◌}
 use mathlib.Core.Bool.{Bool, true, false, cond}
 use mathlib.Core.List.{List, [], ◌∷◌, ◌++◌}
-use Prim.Native.Nat.{ℕ, zero, suc, ◌+◌, ◌-◌, ◌*◌, ◌≤◌, ◌<◌}
+use Prim.Native.Nat.{ℕ, ◌+◌, ◌-◌, ◌*◌, ◌≤◌, ◌<◌}
 use native.Mathlib.Omega.{arith}
 use borrow.Author.Tests.{leb-true}
 use lib.Dec.{leb}
@@ -11,7 +11,7 @@ use lib.Seq.{drop-drop, paste}
 use Rattle.promise.specs.Paper.{done, refused}
 use Rattle.promise.specs.Slices.{over}
 use Rattle.promise.proofs.Bools.{both}
-use Rattle.promise.proofs.Lists.{next, first_from}
+use Rattle.promise.proofs.Lists.{next}
 use Rattle.text.specs.Text.{all}
 use Rattle.utf8.specs.Reading.{all_scalar, writing}
 use Rattle.utf8.specs.Calls.{octet_count}
@@ -20,12 +20,11 @@ use Rattle.edit.specs.Edits.{pieces}
 use Rattle.edit.specs.Refusals.{sum}
 use Rattle.frame.specs.Numbers.{number}
 use Rattle.frame.specs.Format.{column_bytes, width_bytes, chunk_bytes}
-use Rattle.frame_bytes.proofs.Pasted.{Filled, fill_room, fill_more, fill_end}
+use Rattle.frame_bytes.proofs.Pasted.{Filled, fill_none, fill_room, fill_more, fill_end}
 
--- the second list from i on
-module _ (s : List ℕ) (i : ℕ) where
-  onward : drop 1 (drop i s) ≡ drop (i + 1) s
-  onward = drop-drop 1 i s
+none-left : (v : List ℕ) → length v ≡ 0 → v ≡ []
+none-left [] h = refl
+none-left (x ∷ v) h = absurd (omega arith)
 
 -- what was counted of no UTF-8
 pub counted-bad : (cs : List ℕ) → refused 1 0 ≡ octet_count cs → all_scalar cs ≡ false
@@ -43,31 +42,38 @@ unfolding column_bytes
 columns-length [] s = refl
 columns-length (c ∷ f) s = omega (arith, columns-length f (drop 1 s))
 
-columns-next : (f s : List ℕ) (i : ℕ) → i < length f
-    → column_bytes (drop i f) (drop i s) ≡ (number (get_or f i 0) ++ (get_or s i 0 ∷ [])) ++ column_bytes (drop (i + 1) f) (drop (i + 1) s)
+columns-next : (c a : ℕ) (x y : List ℕ) → column_bytes (c ∷ x) (a ∷ y) ≡ (number c ++ (a ∷ [])) ++ column_bytes x y
 unfolding column_bytes
-columns-next f s i h = rw (next f i h, first_from s i, onward s i)
+columns-next c a x y = refl
 
-columns-end : (f s : List ℕ) (i : ℕ) → length f ≤ i → column_bytes (drop i f) (drop i s) ≡ []
-unfolding column_bytes
-columns-end f s i h = rw (drop_of_length-le f h)
+-- n columns stand in t, and those of v with the flags of w are still to come
+abbrev pub Columned : List ℕ → List ℕ → List ℕ → List ℕ → ℕ → List ℕ → List ℕ → Type 0
+Columned f s b t n v w = (length v ≡ length w) × (all (λ b. leb b 1) w ≡ true) × Filled (column_bytes f s) b t (5 * n) (column_bytes v w)
 
-module _ (f s b t : List ℕ) (i k : ℕ) (q : Filled (column_bytes f s) b t k (column_bytes (drop i f) (drop i s))) where
-  pub columns-room : i < length f → k + 5 ≤ 5 * length f
-  columns-room h = omega (arith, columns-length f s, fill_room (column_bytes f s) b t (number (get_or f i 0) ++ (get_or s i 0 ∷ [])) (column_bytes (drop (i + 1) f) (drop (i + 1) s)) (column_bytes (drop i f) (drop i s)) k 5 refl (columns-next f s i h) q)
+pub columns-start : (f s b v w : List ℕ) (n : ℕ) → length f ≡ length s → all (λ b. leb b 1) s ≡ true → v ≡ f → w ≡ s → n ≡ 0 → Columned f s b b n v w
+columns-start f s b v w n l a d e z = rw (d, e, z) (l, a, fill_none (column_bytes f s) b)
 
-  pub columns-more : (u : List ℕ) → i < length f → 5 * length f ≤ length b → u ≡ paste t k (number (get_or f i 0) ++ (get_or s i 0 ∷ [])) 5
-      → Filled (column_bytes f s) b u (k + 5) (column_bytes (drop (i + 1) f) (drop (i + 1) s))
-  columns-more u h m p = fill_more (column_bytes f s) b t (number (get_or f i 0) ++ (get_or s i 0 ∷ [])) (column_bytes (drop (i + 1) f) (drop (i + 1) s)) (column_bytes (drop i f) (drop i s)) k 5 refl (columns-next f s i h) q u (rw (columns-length f s) m) p
+module _ (f s b t v w : List ℕ) (n : ℕ) (q : Columned f s b t n v w) where
+  module _ (c a : ℕ) (x y : List ℕ) (d : v ≡ c ∷ x) (e : w ≡ a ∷ y) where
+    columns-left : column_bytes v w ≡ (number c ++ (a ∷ [])) ++ column_bytes x y
+    columns-left = rw (d, e) (columns-next c a x y)
 
-  pub columns-done : length f ≤ i → t ≡ over (column_bytes f s) b
-  columns-done h = fill_end (column_bytes f s) b t (column_bytes (drop i f) (drop i s)) k (columns-end f s i h) q
+    columns-flags : (a ≤ 1) × (all (λ b. leb b 1) y ≡ true)
+    unfolding all
+    columns-flags = let h = both (leb a 1) (all (λ b. leb b 1) y) (rw e at q.1) in (leb-true a 1 h.0, h.1)
 
-pub flag_at : (s : List ℕ) (i : ℕ) → all (λ b. leb b 1) s ≡ true → i < length s → get_or s i 0 ≤ 1
-unfolding all
-flag_at [] i e h = absurd (omega arith)
-flag_at (x ∷ s) zero e h = leb-true x 1 (both (leb x 1) (all (λ b. leb b 1) s) e).0
-flag_at (x ∷ s) (suc i) e h = flag_at s i (both (leb x 1) (all (λ b. leb b 1) s) e).1 (omega arith)
+    pub columns-room : (5 * n + 5 ≤ 5 * length f) × (a ≤ 1)
+    columns-room = (omega (arith, columns-length f s, fill_room (column_bytes f s) b t (number c ++ (a ∷ [])) (column_bytes x y) (column_bytes v w) (5 * n) 5 refl columns-left q.2), columns-flags.0)
+
+    pub columns-more : (m : ℕ) (u : List ℕ) → m ≡ n + 1 → 5 * length f ≤ length b → u ≡ paste t (5 * n) (number c ++ (a ∷ [])) 5 → Columned f s b u m x y
+    columns-more m u i h p =
+        let k : 5 * m ≡ 5 * n + 5 = omega arith in
+        let l : length x ≡ length y = omega (arith, q.0, ap length d, ap length e) in
+        rw k (l, columns-flags.1, fill_more (column_bytes f s) b t (number c ++ (a ∷ [])) (column_bytes x y) (column_bytes v w) (5 * n) 5 refl columns-left q.2 u (rw (columns-length f s) h) p)
+
+  pub columns-done : length v ≡ 0 → t ≡ over (column_bytes f s) b
+  unfolding column_bytes
+  columns-done h = fill_end (column_bytes f s) b t (column_bytes v w) (5 * n) (rw (none-left v h)) q.2
 
 -- ---- widths with pads
 
@@ -76,25 +82,34 @@ unfolding width_bytes
 widths_length [] s = refl
 widths_length (w ∷ f) s = omega (arith, widths_length f (drop 1 s))
 
-widths_next : (f s : List ℕ) (i : ℕ) → i < length f
-    → width_bytes (drop i f) (drop i s) ≡ (number (get_or f i 0) ++ number (get_or s i 0)) ++ width_bytes (drop (i + 1) f) (drop (i + 1) s)
+widths_next : (c a : ℕ) (x y : List ℕ) → width_bytes (c ∷ x) (a ∷ y) ≡ (number c ++ number a) ++ width_bytes x y
 unfolding width_bytes
-widths_next f s i h = rw (next f i h, first_from s i, onward s i)
+widths_next c a x y = refl
 
-widths_end : (f s : List ℕ) (i : ℕ) → length f ≤ i → width_bytes (drop i f) (drop i s) ≡ []
-unfolding width_bytes
-widths_end f s i h = rw (drop_of_length-le f h)
+-- n widths with their pads stand in t, and those of v and w are still to come
+abbrev pub Widened : List ℕ → List ℕ → List ℕ → List ℕ → ℕ → List ℕ → List ℕ → Type 0
+Widened f s b t n v w = (length v ≡ length w) × Filled (width_bytes f s) b t (8 * n) (width_bytes v w)
 
-module _ (f s b t : List ℕ) (i k : ℕ) (q : Filled (width_bytes f s) b t k (width_bytes (drop i f) (drop i s))) where
-  pub widths_room : i < length f → k + 8 ≤ 8 * length f
-  widths_room h = omega (arith, widths_length f s, fill_room (width_bytes f s) b t (number (get_or f i 0) ++ number (get_or s i 0)) (width_bytes (drop (i + 1) f) (drop (i + 1) s)) (width_bytes (drop i f) (drop i s)) k 8 refl (widths_next f s i h) q)
+pub widths_start : (f s b v w : List ℕ) (n : ℕ) → length f ≡ length s → v ≡ f → w ≡ s → n ≡ 0 → Widened f s b b n v w
+widths_start f s b v w n l d e z = rw (d, e, z) (l, fill_none (width_bytes f s) b)
 
-  pub widths_more : (u : List ℕ) → i < length f → 8 * length f ≤ length b → u ≡ paste t k (number (get_or f i 0) ++ number (get_or s i 0)) 8
-      → Filled (width_bytes f s) b u (k + 8) (width_bytes (drop (i + 1) f) (drop (i + 1) s))
-  widths_more u h m p = fill_more (width_bytes f s) b t (number (get_or f i 0) ++ number (get_or s i 0)) (width_bytes (drop (i + 1) f) (drop (i + 1) s)) (width_bytes (drop i f) (drop i s)) k 8 refl (widths_next f s i h) q u (rw (widths_length f s) m) p
+module _ (f s b t v w : List ℕ) (n : ℕ) (q : Widened f s b t n v w) where
+  module _ (c a : ℕ) (x y : List ℕ) (d : v ≡ c ∷ x) (e : w ≡ a ∷ y) where
+    widths_left : width_bytes v w ≡ (number c ++ number a) ++ width_bytes x y
+    widths_left = rw (d, e) (widths_next c a x y)
 
-  pub widths_done : length f ≤ i → t ≡ over (width_bytes f s) b
-  widths_done h = fill_end (width_bytes f s) b t (width_bytes (drop i f) (drop i s)) k (widths_end f s i h) q
+    pub widths_room : 8 * n + 8 ≤ 8 * length f
+    widths_room = omega (arith, widths_length f s, fill_room (width_bytes f s) b t (number c ++ number a) (width_bytes x y) (width_bytes v w) (8 * n) 8 refl widths_left q.1)
+
+    pub widths_more : (m : ℕ) (u : List ℕ) → m ≡ n + 1 → 8 * length f ≤ length b → u ≡ paste t (8 * n) (number c ++ number a) 8 → Widened f s b u m x y
+    widths_more m u i h p =
+        let k : 8 * m ≡ 8 * n + 8 = omega arith in
+        let l : length x ≡ length y = omega (arith, q.0, ap length d, ap length e) in
+        rw k (l, fill_more (width_bytes f s) b t (number c ++ number a) (width_bytes x y) (width_bytes v w) (8 * n) 8 refl widths_left q.1 u (rw (widths_length f s) h) p)
+
+  pub widths_done : length v ≡ 0 → t ≡ over (width_bytes f s) b
+  unfolding width_bytes
+  widths_done h = fill_end (width_bytes f s) b t (width_bytes v w) (8 * n) (rw (none-left v h)) q.1
 
 -- ---- chunks with the lengths of their UTF-8
 

@@ -5,7 +5,7 @@ ghost use Rattle.text.specs.Text.{all};
 ghost use Rattle.utf8.specs.Reading.{all_scalar, writing};
 ghost use Rattle.edit.specs.declared.Edit.TheVariants.{InsertStr, DeleteRange, JoinLines, SplitLines, Replace, InsertBlock, DeleteBlockChunks};
 ghost use Rattle.edit.specs.Refusals.{sum};
-ghost use Rattle.frame.specs.Format.{kind_byte, flag_byte, edit_bytes, has_bytes, edit_chars};
+ghost use Rattle.frame.specs.Format.{kind_byte, edit_bytes, has_bytes, edit_chars};
 ghost use Rattle.frame.specs.Sizes.{size_of};
 
 use crate::lists::{put_chunks, put_columns, put_widths};
@@ -23,12 +23,6 @@ fn kind_byte(kind: MotionKind) -> u8
         MotionKind::Line => 1,
         MotionKind::Block => 2,
     }
-}
-
-fn flag_byte(flag: bool) -> u8
-    ensures { result ≡ flag_byte flag }
-{
-    if flag { 1 } else { 0 }
 }
 
 fn put_insert(bytes: &mut [u8], at: Position, payload: &[u32])
@@ -57,7 +51,7 @@ fn put_join(bytes: &mut [u8], row: Row, count: u32, spaced: bool)
     bytes[0] = 0x12;
     put_number(bytes, ByteOffset(1), row.0);
     put_number(bytes, ByteOffset(5), count);
-    bytes[9] = flag_byte(spaced);
+    bytes[9] = u8::from(spaced);
 }
 
 fn put_split(bytes: &mut [u8], row: Row, cols: &[u32], flags: &[u32])

@@ -27,12 +27,8 @@ pub fn put_columns(bytes: &mut [u8], cols: &[u32], flags: &[u32])
     requires { (length cols.now ≡ length flags.now) × (all (λ b. leb b 1) flags.now ≡ true) × (5 * length cols.now ≤ length bytes.old) }
     ensures { bytes.new ≡ over (column_bytes cols.now flags.now) bytes.old }
 {
-    let mut at = 0;
-    let mut i = 0;
-    while i < cols.len() {
-        put_column(bytes, ByteOffset(at), cols[i], flags[i]);
-        at += 5;
-        i += 1;
+    for (i, (col, flag)) in cols.iter().zip(flags).enumerate() {
+        put_column(bytes, ByteOffset(5 * i), *col, *flag);
     }
 }
 
@@ -40,12 +36,8 @@ pub fn put_widths(bytes: &mut [u8], widths: &[u32], pads: &[u32])
     requires { (length widths.now ≡ length pads.now) × (8 * length widths.now ≤ length bytes.old) }
     ensures { bytes.new ≡ over (width_bytes widths.now pads.now) bytes.old }
 {
-    let mut at = 0;
-    let mut i = 0;
-    while i < widths.len() {
-        put_pair(bytes, ByteOffset(at), widths[i], pads[i]);
-        at += 8;
-        i += 1;
+    for (i, (width, pad)) in widths.iter().zip(pads).enumerate() {
+        put_pair(bytes, ByteOffset(8 * i), *width, *pad);
     }
 }
 
@@ -67,11 +59,9 @@ pub fn put_chunks(bytes: &mut [u8], payload: &[u32], lens: &[u32])
 {
     let mut at = ByteOffset(0);
     let mut from = 0;
-    let mut i = 0;
-    while i < lens.len() {
-        let end = from + lens[i] as usize;
+    for len in lens {
+        let end = from + *len as usize;
         at = put_chunk(bytes, at, &payload[from..end]);
         from = end;
-        i += 1;
     }
 }

@@ -6,22 +6,12 @@ ghost use Rattle.frame.specs.Numbers.{number, position};
 use text::Position;
 use utf8::ByteOffset;
 
-// The lowest eight bits.
-fn low_byte(n: u32) -> u8
-    ensures { result ≡ n % 256 }
-{
-    (n % 256) as u8
-}
-
 pub fn put_number(bytes: &mut [u8], at: ByteOffset, n: u32)
     requires { at.0 + 4 ≤ length bytes.old }
     ensures { bytes.new ≡ paste bytes.old at.0 (number n) 4 }
 {
     let start = at.0;
-    bytes[start] = (n / 256 / 256 / 256) as u8;
-    bytes[start + 1] = low_byte(n / 256 / 256);
-    bytes[start + 2] = low_byte(n / 256);
-    bytes[start + 3] = low_byte(n);
+    bytes[start..start + 4].copy_from_slice(&n.to_be_bytes());
 }
 
 // Two numbers, one behind the other.

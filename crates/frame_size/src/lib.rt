@@ -14,15 +14,13 @@ use encoding::count_octets;
 use frame::BYTE_LIMIT;
 use utf8::BadText;
 
-// Whether every flag is 0 or 1.
+// Whether every flag is 0 or 1. Looks at every one: without an early exit the loop is vectorised.
 fn all_flags(flags: &[u32]) -> bool
     ensures { result ≡ all (λ b. leb b 1) flags.now }
 {
     let mut all = true;
-    let mut i = 0;
-    while i < flags.len() {
-        all = all & (flags[i] <= 1);
-        i += 1;
+    for x in flags {
+        all &= *x <= 1;
     }
     all
 }
@@ -63,11 +61,7 @@ pub fn octets_of(edit: Edit, payload: &[u32]) -> Result<usize, BadText>
 fn bounded(count: usize) -> usize
     ensures { result ≡ min count 18_433 }
 {
-    if count <= BYTE_LIMIT {
-        count
-    } else {
-        BYTE_LIMIT + 1
-    }
+    count.min(BYTE_LIMIT + 1)
 }
 
 // How many bytes the frame takes whose first list has so many items and whose characters take so many octets, or one more

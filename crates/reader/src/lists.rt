@@ -13,23 +13,13 @@ use edit::{Edit, Refusal};
 use frame::number_at;
 use utf8::ByteOffset;
 
-fn wide(x: u8) -> u32
-    ensures { result ≡ x }
-{
-    x as u32
-}
-
 // The number at `at` of each item of `step` bytes.
 fn fill_numbers(bytes: &[u8], step: usize, at: usize, out: &mut [u32])
     requires { (at + 4 ≤ step) × (length bytes.now / step ≤ length out.old) }
     ensures { out.new ≡ over (items step (length bytes.now / step) (λ i. number_in i at) bytes.now) out.old }
 {
-    let count = bytes.len() / step;
-    let mut i = 0;
-    while i < count {
-        let start = i * step;
-        out[i] = number_at(bytes, ByteOffset(start + at));
-        i += 1;
+    for (i, item) in bytes.chunks_exact(step).enumerate() {
+        out[i] = number_at(item, ByteOffset(at));
     }
 }
 
@@ -38,11 +28,8 @@ fn fill_flags(bytes: &[u8], out: &mut [u32])
     requires { length bytes.now / 5 ≤ length out.old }
     ensures { out.new ≡ over (flags_in bytes.now) out.old }
 {
-    let count = bytes.len() / 5;
-    let mut i = 0;
-    while i < count {
-        out[i] = wide(bytes[i * 5 + 4]);
-        i += 1;
+    for (i, item) in bytes.chunks_exact(5).enumerate() {
+        out[i] = u32::from(item[4]);
     }
 }
 

@@ -64,6 +64,7 @@ fn count_chunks(strings: &[u8]) -> Result<Tally, BadUtf8>
     let mut at = 0;
     let mut chunks = 0;
     let mut chars = 0;
+    // A cursor: each turn moves it by what it read.
     while at < strings.len() {
         let length = number_at(strings, ByteOffset(at)) as usize;
         let start = at + 4;
@@ -99,6 +100,7 @@ fn fill_chunks(strings: &[u8], payload: &mut [u32], first: &mut [u32])
     let mut at = 0;
     let mut chunks = 0;
     let mut chars = 0;
+    // A cursor: each turn moves it by what it read.
     while at < strings.len() {
         let length = number_at(strings, ByteOffset(at)) as usize;
         let start = at + 4;

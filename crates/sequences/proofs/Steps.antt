@@ -7,9 +7,9 @@ use native.Mathlib.Omega.{arith}
 use borrow.Author.Tests.{ne_eqb, eqb-true}
 use lib.Count.{count_leading_zeros}
 use lib.Dec.{eqb}
-use lib.ListN.{length, take, drop, get_or, length-drop, drop_of_length-le}
+use lib.ListN.{length, take, drop, get_or, length-take, length-drop, drop_of_length-le}
 use lib.Seq.{take_at, drop-drop}
-use Rattle.promise.proofs.Lists.{next, next-3}
+use Rattle.promise.proofs.Lists.{next, next-2, next-3, next-4, tail_whole}
 use Rattle.promise.specs.Paper.{done, refused}
 use Rattle.utf8.specs.Rfc3629.{Range, UTF8-3, UTF8-char, taken, number}
 use Rattle.utf8.specs.Lead.{announced}
@@ -35,6 +35,23 @@ pub cut_off : (n : ℕ) (rule : List (List Range)) (s : List ℕ) (i : ℕ) → 
 unfolding stepped
 cut_off n rule s i e h = rw (taken-short n rule (drop i s) e (simp length-drop h))
 
+-- What is left of s from i on, as it is lent.
+module _ (s : List ℕ) (i : ℕ) where
+  abbrev pub left : List ℕ
+  left = take (length s - i) (drop i s)
+
+  pub left-2 : 2 ≤ length left → drop i s ≡ get_or left 0 0 ∷ get_or left 1 0 ∷ drop 2 left
+  left-2 h = sym (tail_whole s i) ∙ next-2 left 0 h
+
+  pub left-3 : 3 ≤ length left → drop i s ≡ get_or left 0 0 ∷ get_or left 1 0 ∷ get_or left 2 0 ∷ drop 3 left
+  left-3 h = sym (tail_whole s i) ∙ next-3 left 0 h
+
+  pub left-4 : 4 ≤ length left → drop i s ≡ get_or left 0 0 ∷ get_or left 1 0 ∷ get_or left 2 0 ∷ get_or left 3 0 ∷ drop 4 left
+  left-4 h = sym (tail_whole s i) ∙ next-4 left 0 h
+
+  pub left-short : (n : ℕ) (rule : List (List Range)) → long_rows n rule ≡ true → length left < n → refused 5 i ≡ step_by rule s i
+  left-short n rule e h = cut_off n rule s i e (omega (arith, length-take (length s - i) (drop i s), length-drop i s))
+
 -- A step by the rule that the lead announces is a step.
 pub announces : (s : List ℕ) (i o : ℕ) → i < length s → get_or s i 0 < 256 → o ≡ count_leading_zeros 8 (255 - get_or s i 0)
     → step_by (announced o) s i ≡ step_by UTF8-char s i
@@ -50,16 +67,17 @@ unfolding number
 ascii s i v h k f = found UTF8-char s (get_or s i 0 ∷ []) (drop (i + 1) s) i 0 true (next s i h) refl (takes-1 (get_or s i 0) (drop (i + 1) s) k) v refl f
 
 -- UTF8-3 tested where it stands
-pub three_cut : (s : List ℕ) (i : ℕ) → length s - i < 3 → false ≡ eqb (taken UTF8-3 (drop i s)) 3
-three_cut s i h = rw (taken-short 3 UTF8-3 (drop i s) refl (simp length-drop h))
+module _ (s : List ℕ) (i : ℕ) where
+  pub three_cut : length (left s i) < 3 → false ≡ eqb (taken UTF8-3 (drop i s)) 3
+  three_cut h = rw (taken-short 3 UTF8-3 (drop i s) refl (omega (arith, length-take (length s - i) (drop i s), length-drop i s)))
 
-pub three_tested : (s : List ℕ) (i : ℕ) (r : Bool) → i + 2 < length s → ((q : List ℕ) → taken UTF8-3 (get_or s i 0 ∷ get_or s (i + 1) 0 ∷ get_or s (i + 2) 0 ∷ q) ≡ cond r 3 0)
-    → r ≡ eqb (taken UTF8-3 (drop i s)) 3
-three_tested s i r h t = rw (next-3 s i h, t (drop (i + 3) s)) (go r)
-  where
-    go : (b : Bool) → b ≡ eqb (cond b 3 0) 3
-    go true = refl
-    go false = refl
+  pub three_tested : (r : Bool) → 3 ≤ length (left s i) → ((q : List ℕ) → taken UTF8-3 (get_or (left s i) 0 0 ∷ get_or (left s i) 1 0 ∷ get_or (left s i) 2 0 ∷ q) ≡ cond r 3 0)
+      → r ≡ eqb (taken UTF8-3 (drop i s)) 3
+  three_tested r h t = rw (left-3 s i h, t (drop 3 (left s i))) (go r)
+    where
+      go : (b : Bool) → b ≡ eqb (cond b 3 0) 3
+      go true = refl
+      go false = refl
 
 -- and where its lead announces it
 module _ (s : List ℕ) (i o : ℕ) (h : i < length s) (k : get_or s i 0 < 256) (e : o ≡ count_leading_zeros 8 (255 - get_or s i 0)) (q : o ≡ 3) where

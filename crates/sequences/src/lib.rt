@@ -10,16 +10,10 @@ ghost use Rattle.utf8.specs.Calls.{step_by};
 
 use utf8::{BadUtf8, ByteOffset, Scalar};
 
-pub fn wide(x: u8) -> u32
-    ensures { result ≡ x }
-{
-    x as u32
-}
-
 pub fn leading_ones(x: u8) -> u32
     ensures { result ≡ count_leading_zeros 8 (255 - x) }
 {
-    u8::leading_zeros(!x)
+    x.leading_ones()
 }
 
 // UTF8-2
@@ -61,94 +55,57 @@ fn is_four(a: u8, b: u8, c: u8, d: u8) -> bool
         & (d <= 0xBF)
 }
 
+#[tactic(auto, unfolding(utf8::specs::Rfc3629::number))]
 pub fn number_of_two(a: u8, b: u8) -> u32
     ensures { result ≡ number (a ∷ b ∷ []) }
 {
-    wide(a) % 32 * 64 + wide(b) % 64
+    u32::from(a) % 32 * 64 + u32::from(b) % 64
 }
 
+#[tactic(auto, unfolding(utf8::specs::Rfc3629::number))]
 pub fn number_of_three(a: u8, b: u8, c: u8) -> u32
     ensures { result ≡ number (a ∷ b ∷ c ∷ []) }
 {
-    (wide(a) % 16 * 64 + wide(b) % 64) * 64 + wide(c) % 64
+    (u32::from(a) % 16 * 64 + u32::from(b) % 64) * 64 + u32::from(c) % 64
 }
 
+#[tactic(auto, unfolding(utf8::specs::Rfc3629::number))]
 pub fn number_of_four(a: u8, b: u8, c: u8, d: u8) -> u32
     ensures { result ≡ number (a ∷ b ∷ c ∷ d ∷ []) }
 {
-    ((wide(a) % 8 * 64 + wide(b) % 64) * 64 + wide(c) % 64) * 64 + wide(d) % 64
+    ((u32::from(a) % 8 * 64 + u32::from(b) % 64) * 64 + u32::from(c) % 64) * 64 + u32::from(d) % 64
 }
 
-fn read_two(bytes: &[u8], start: usize) -> Result<Scalar, BadUtf8>
-    requires { start < length bytes.now }
-    ensures { paper_step result ≡ step_by UTF8-2 bytes.now start }
-{
-    if bytes.len() - start < 2 {
-        return Err(BadUtf8(ByteOffset(start)));
-    }
-    let a = bytes[start];
-    let b = bytes[start + 1];
-    if is_two(a, b) {
-        Ok(Scalar {
-            value: number_of_two(a, b),
-            next: ByteOffset(start + 2),
-        })
-    } else {
-        Err(BadUtf8(ByteOffset(start)))
-    }
-}
-
-fn read_three(bytes: &[u8], start: usize) -> Result<Scalar, BadUtf8>
-    requires { start < length bytes.now }
-    ensures { paper_step result ≡ step_by UTF8-3 bytes.now start }
-{
-    if bytes.len() - start < 3 {
-        return Err(BadUtf8(ByteOffset(start)));
-    }
-    let a = bytes[start];
-    let b = bytes[start + 1];
-    let c = bytes[start + 2];
-    if is_three(a, b, c) {
-        Ok(Scalar {
-            value: number_of_three(a, b, c),
-            next: ByteOffset(start + 3),
-        })
-    } else {
-        Err(BadUtf8(ByteOffset(start)))
-    }
-}
-
-fn read_four(bytes: &[u8], start: usize) -> Result<Scalar, BadUtf8>
-    requires { start < length bytes.now }
-    ensures { paper_step result ≡ step_by UTF8-4 bytes.now start }
-{
-    if bytes.len() - start < 4 {
-        return Err(BadUtf8(ByteOffset(start)));
-    }
-    let a = bytes[start];
-    let b = bytes[start + 1];
-    let c = bytes[start + 2];
-    let d = bytes[start + 3];
-    if is_four(a, b, c, d) {
-        Ok(Scalar {
-            value: number_of_four(a, b, c, d),
-            next: ByteOffset(start + 4),
-        })
-    } else {
-        Err(BadUtf8(ByteOffset(start)))
-    }
-}
-
-// A sequence of more than one octet, by its lead's leading one bits.
+// A sequence of more than one octet, by its lead's leading one bits. Each arm takes its own slice: with one slice before them the
+// arms make no jump table where this is called.
 fn read_long(bytes: &[u8], start: usize, ones: u32) -> Result<Scalar, BadUtf8>
     requires { (start < length bytes.now) × (0 < ones) }
     ensures { paper_step result ≡ step_by (announced ones) bytes.now start }
 {
+    let bad = Err(BadUtf8(ByteOffset(start)));
     match ones {
-        2 => read_two(bytes, start),
-        3 => read_three(bytes, start),
-        4 => read_four(bytes, start),
-        _ => Err(BadUtf8(ByteOffset(start))),
+        2 => match &bytes[start..] {
+            [a, b, ..] if is_two(*a, *b) => Ok(Scalar {
+                value: number_of_two(*a, *b),
+                next: ByteOffset(start + 2),
+            }),
+            _ => bad,
+        },
+        3 => match &bytes[start..] {
+            [a, b, c, ..] if is_three(*a, *b, *c) => Ok(Scalar {
+                value: number_of_three(*a, *b, *c),
+                next: ByteOffset(start + 3),
+            }),
+            _ => bad,
+        },
+        4 => match &bytes[start..] {
+            [a, b, c, d, ..] if is_four(*a, *b, *c, *d) => Ok(Scalar {
+                value: number_of_four(*a, *b, *c, *d),
+                next: ByteOffset(start + 4),
+            }),
+            _ => bad,
+        },
+        _ => bad,
     }
 }
 
@@ -157,14 +114,13 @@ pub fn read_scalar(bytes: &[u8], at: ByteOffset) -> Result<Scalar, BadUtf8>
     ensures { paper_step result ≡ step_by UTF8-char bytes.now at.0 }
 {
     let start = at.0;
-    if bytes.len() <= start {
+    let Some(lead) = bytes.get(start) else {
         return Err(BadUtf8(at));
-    }
-    let lead = bytes[start];
-    let ones = leading_ones(lead);
+    };
+    let ones = leading_ones(*lead);
     if ones == 0 {
         return Ok(Scalar {
-            value: wide(lead),
+            value: u32::from(*lead),
             next: ByteOffset(start + 1),
         });
     }

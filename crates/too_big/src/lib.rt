@@ -11,14 +11,13 @@ use text::Position;
 // The greatest number of an edit, of what is shifted, or of a box.
 pub const NUMBER_LIMIT: u32 = 1_000_000;
 
+// Looks at every item: without an early exit the loop is vectorised.
 fn all_small(list: &[u32]) -> bool
     ensures { result ≡ all small list.now }
 {
     let mut all = true;
-    let mut i = 0;
-    while i < list.len() {
-        all = all & (list[i] <= NUMBER_LIMIT);
-        i += 1;
+    for x in list {
+        all &= *x <= NUMBER_LIMIT;
     }
     all
 }

@@ -6,14 +6,14 @@ use Rattle.decoding.proofs.Fills.{Filled, fill_again, fill_one, fill_two, fill_t
 use Rattle.decoding.proofs.Runs.{fill_run}
 use Rattle.utf8.specs.Calls.{scalars_of}
 use Rattle.utf8.specs.Reading.{reading}
-use Rattle.decoding.proofs.fill_scalars.Goals.{After-number_of_four, After-number_of_three, After-number_of_two, After-wide}
+use Rattle.decoding.proofs.fill_scalars.Goals.{After-number_of_four, After-number_of_three, After-number_of_two, After-from}
 use Rattle.decoding.proofs.fill_scalars.Goals as goal
 
 -- a turn, on each way
-ascii-turn : (c : After-wide) → Filled c.args.bytes.now (scalars_of (reading c.args.bytes.now)) c.args.out.now c.loop-at.out c.loop-at.at.0 c.loop-at.count c.wide.result (c.loop-at.at.0 + 1)
+ascii-turn : (c : After-from) → Filled c.args.bytes.now (scalars_of (reading c.args.bytes.now)) c.args.out.now c.loop-at.out c.loop-at.at.0 c.loop-at.count c.from.result (c.loop-at.at.0 + 1)
 ascii-turn c =
     let l = c.loop-at in
-    fill_again _ _ l.at.0 l.count l.invariant.3 _ _ c.wide.result (l.at.0 + 1) (fill_one _ _ l.at.0 l.count l.invariant.3 c.loop-at-test.true _ (c.shared_slice_known-in-loop-at-1.given l.at.0).fits c.leading_ones-ones.ensures c.if-ones-le1.true _ c.wide.ensures) l.invariant.0 c.requires.1 l.invariant.4
+    fill_again _ _ l.at.0 l.count l.invariant.3 _ _ c.from.result (l.at.0 + 1) (fill_one _ _ l.at.0 l.count l.invariant.3 c.loop-at-test.true _ (c.shared_slice_known-in-loop-at-1.given l.at.0).fits c.leading_ones-ones.ensures c.if-ones-le1.true _ c.from.ensures) l.invariant.0 c.requires.1 l.invariant.4
 
 two-turn : (c : After-number_of_two) → Filled c.args.bytes.now (scalars_of (reading c.args.bytes.now)) c.args.out.now c.loop-at.out c.loop-at.at.0 c.loop-at.count c.number_of_two.result (c.loop-at.at.0 + 2)
 two-turn c =
@@ -64,22 +64,22 @@ loop-at-preserved-then-starts_block c = let l = c.loop-at in let a = c.args in l
     (g.0, omega arith, r.0, r.1, rw c.widen_block.ensures r.2)
 
 pub offset_bounds-out-count : goal.offset_bounds-out-count
-offset_bounds-out-count c = let t = ascii-turn (goal.at.offset_bounds-out-count c).After-wide in omega arith
+offset_bounds-out-count c = let t = ascii-turn (goal.at.offset_bounds-out-count c).After-from in omega arith
 
 pub bounds-out-count : goal.bounds-out-count
-bounds-out-count c = let t = ascii-turn (goal.at.bounds-out-count c).After-wide in omega arith
+bounds-out-count c = let t = ascii-turn (goal.at.bounds-out-count c).After-from in omega arith
 
 pub overflow_add-at-else-starts_block : goal.overflow_add-at-else-starts_block
-overflow_add-at-else-starts_block c = let t = ascii-turn (goal.at.overflow_add-at-else-starts_block c).After-wide in omega arith
+overflow_add-at-else-starts_block c = let t = ascii-turn (goal.at.overflow_add-at-else-starts_block c).After-from in omega arith
 
 pub overflow_add-count-else-starts_block : goal.overflow_add-count-else-starts_block
-overflow_add-count-else-starts_block c = let t = ascii-turn (goal.at.overflow_add-count-else-starts_block c).After-wide in omega arith
+overflow_add-count-else-starts_block c = let t = ascii-turn (goal.at.overflow_add-count-else-starts_block c).After-from in omega arith
 
 pub loop-at-smaller-else-starts_block : goal.loop-at-smaller-else-starts_block
-loop-at-smaller-else-starts_block c = let t = ascii-turn (goal.at.loop-at-smaller-else-starts_block c).After-wide in omega arith
+loop-at-smaller-else-starts_block c = let t = ascii-turn (goal.at.loop-at-smaller-else-starts_block c).After-from in omega arith
 
 pub loop-at-preserved-else-starts_block : goal.loop-at-preserved-else-starts_block
-loop-at-preserved-else-starts_block c = let t = ascii-turn (goal.at.loop-at-preserved-else-starts_block c).After-wide in (t.0, simp length-set c.loop-at.invariant.1, omega arith, t.3, t.4)
+loop-at-preserved-else-starts_block c = let t = ascii-turn (goal.at.loop-at-preserved-else-starts_block c).After-from in (t.0, simp length-set c.loop-at.invariant.1, omega arith, t.3, t.4)
 
 pub bounds-bytes-start-then-ones-le2 : goal.bounds-bytes-start-then-ones-le2
 bounds-bytes-start-then-ones-le2 c = let l = c.loop-at in let r = (fill_two _ _ l.at.0 l.count l.invariant.3 c.loop-at-test.true _ (c.shared_slice_known-in-loop-at-1.given l.at.0).fits c.leading_ones-ones.ensures c.if-ones-le1.false c.if-ones-le2.true).0 in omega arith

@@ -1,9 +1,10 @@
 use native.Mathlib.Omega.{arith}
-use Rattle.decoding.proofs.Runs.{ascii_more}
+use Rattle.decoding.proofs.Runs.{lent_long, lent_at, ascii_more}
 use Rattle.decoding.proofs.is_block.Goals as goal
 
-pub loop-k-preserved : goal.loop-k-preserved
-loop-k-preserved c = let l = c.loop-k in let a = c.args in (omega arith, ascii_more a.bytes.now a.start l.k l.all l.invariant.1)
+pub loop-x-preserved : goal.loop-x-preserved
+loop-x-preserved c = let l = c.loop-x in let a = c.args in let n = lent_long a.bytes.now a.start 16 c.requires in
+    ascii_more a.bytes.now a.start l.x-index _ l.all (lent_at a.bytes.now a.start 16 c.requires l.x-index (omega arith)) l.invariant
 
 pub returns : goal.returns
-returns c = let l = c.loop-k in λ e k h. l.invariant.1 e k (omega arith)
+returns c = let l = c.loop-x in let a = c.args in let n = lent_long a.bytes.now a.start 16 c.requires in λ e k h. l.invariant e k (omega arith)

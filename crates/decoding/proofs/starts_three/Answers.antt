@@ -1,9 +1,8 @@
-use native.Mathlib.Omega.{arith}
 use Rattle.sequences.proofs.Steps.{three_cut, three_tested}
 use Rattle.decoding.proofs.starts_three.Goals as goal
 
-pub returns-then-bytes-start-lt3 : goal.returns-then-bytes-start-lt3
-returns-then-bytes-start-lt3 c = let a = c.args in three_cut a.bytes.now a.start c.if-bytes-start-lt3.true
+pub returns-in-len3-up : goal.returns-in-len3-up
+returns-in-len3-up c = let a = c.args in three_tested a.bytes.now a.start _ c.in-len3-up.len_at_least c.is_three.ensures
 
-pub returns : goal.returns
-returns c = let a = c.args in three_tested a.bytes.now a.start _ (omega arith) c.is_three.ensures
+pub returns-in_default : goal.returns-in_default
+returns-in_default c = let a = c.args in three_cut a.bytes.now a.start c.in_default.len_below

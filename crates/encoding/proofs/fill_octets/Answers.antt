@@ -1,92 +1,67 @@
+use mathlib.Core.List.{[], ◌∷◌}
 use mathlib.Core.Path.{refl, sym, ap, ◌∙◌}
+use Prim.Native.Nat.{◌+◌, ◌≤◌}
 use native.Mathlib.Omega.{arith}
-use lib.ListN.{get_or, length-set}
-use Rattle.encoding.proofs.Fills.{one-room, one_again, three_room, three_again, fill_room, fill_again, fill_all, next_scalar}
+use lib.ListN.{length, get_or}
+use Rattle.encoding.proofs.Fills.{one-room, one_again, three_room, three_again, fill_room, fill_again, exchanged, fill_all, next_scalar}
 use Rattle.encoding.proofs.Sequences.{between, scalar_written}
 use Rattle.utf8.specs.Answers.{paper_sequence}
+use Rattle.utf8.specs.Reading.{writing}
 use Rattle.encoding.proofs.fill_octets.Goals as goal
+use Rattle.encoding.proofs.fill_octets.Goals.{Then-value-le127, Then-value, then-value-le127, else-value-le127+then-value, else-value-le127+else-value}
 
-pub loop-i-init : goal.loop-i-init
-loop-i-init c = (omega arith, refl, omega arith, c.requires.0, refl, refl)
+one_fits : (c : Then-value-le127) → c.loop-value.at.0 + 1 ≤ length (writing c.args.scalars.now)
+one_fits c = let l = c.loop-value in let a = c.args in
+    one-room a.scalars.now a.out.now l.out l.value-index l.at.0 c.loop-value-test.true l.invariant.1 l.invariant.2 c.requires.1 c.if-value-le127.true
+
+three_fit : (c : Then-value) → c.loop-value.at.0 + 3 ≤ length (writing c.args.scalars.now)
+three_fit c = let l = c.loop-value in let a = c.args in
+    let w = between 0x7FF 0xFFFF (get_or a.scalars.now l.value-index 0) c.if-value.true in
+    three_room a.scalars.now a.out.now l.out l.value-index l.at.0 c.loop-value-test.true l.invariant.1 l.invariant.2 c.requires.1 w.0 w.1
+
+pub loop-value-init : goal.loop-value-init
+loop-value-init c = (omega arith, c.requires.0, refl, refl)
 
 pub bounds-out-start : goal.bounds-out-start
-bounds-out-start c = let l = c.loop-i in let a = c.args in let s = a.scalars.now in
-    let k = one-room s a.out.now l.out l.i l.at.0 c.loop-i-test.true l.invariant.3 l.invariant.4 c.requires.1 c.if-value-le127.true in
-    omega arith
+bounds-out-start c = let k = one_fits (goal.at.bounds-out-start c).Then-value-le127 in omega arith
 
 pub overflow_add-at : goal.overflow_add-at
-overflow_add-at c = let l = c.loop-i in let a = c.args in let s = a.scalars.now in
-    let k = one-room s a.out.now l.out l.i l.at.0 c.loop-i-test.true l.invariant.3 l.invariant.4 c.requires.1 c.if-value-le127.true in
-    omega arith
-
-pub loop-i-preserved-then-value-le127 : goal.loop-i-preserved-then-value-le127
-loop-i-preserved-then-value-le127 c = let l = c.loop-i in let a = c.args in let s = a.scalars.now in
-    let t = one_again s a.out.now l.out l.i l.at.0 c.loop-i-test.true l.invariant.3 l.invariant.4 c.requires.1 c.if-value-le127.true l.invariant.5 in
-    (omega arith, simp length-set l.invariant.1, t.0, t.1, t.2, t.3)
+overflow_add-at c = let k = one_fits (goal.at.overflow_add-at c).Then-value-le127 in omega arith
 
 pub lead_of_three-requires : goal.lead_of_three-requires
-lead_of_three-requires c = let l = c.loop-i in let a = c.args in let s = a.scalars.now in
-    (between 0x7FF 0xFFFF (get_or s l.i 0) c.if-value.true).1
+lead_of_three-requires c = (between 0x7FF 0xFFFF (get_or c.args.scalars.now c.loop-value.value-index 0) c.if-value.true).1
 
-pub bounds-out-start-then-value : goal.bounds-out-start-then-value
-bounds-out-start-then-value c = let l = c.loop-i in let a = c.args in let s = a.scalars.now in
-    let w = between 0x7FF 0xFFFF (get_or s l.i 0) c.if-value.true in
-    let k = three_room s a.out.now l.out l.i l.at.0 c.loop-i-test.true l.invariant.3 l.invariant.4 c.requires.1 w.0 w.1 in
-    omega arith
-
-pub overflow_add-out : goal.overflow_add-out
-overflow_add-out c = let l = c.loop-i in let a = c.args in let s = a.scalars.now in
-    let w = between 0x7FF 0xFFFF (get_or s l.i 0) c.if-value.true in
-    let k = three_room s a.out.now l.out l.i l.at.0 c.loop-i-test.true l.invariant.3 l.invariant.4 c.requires.1 w.0 w.1 in
-    omega arith
-
-pub bounds-out-start-then-value-2 : goal.bounds-out-start-then-value-2
-bounds-out-start-then-value-2 c = let l = c.loop-i in let a = c.args in let s = a.scalars.now in
-    let w = between 0x7FF 0xFFFF (get_or s l.i 0) c.if-value.true in
-    let k = three_room s a.out.now l.out l.i l.at.0 c.loop-i-test.true l.invariant.3 l.invariant.4 c.requires.1 w.0 w.1 in
-    simp length-set (omega arith)
-
-pub overflow_add-out-then-value : goal.overflow_add-out-then-value
-overflow_add-out-then-value c = let l = c.loop-i in let a = c.args in let s = a.scalars.now in
-    let w = between 0x7FF 0xFFFF (get_or s l.i 0) c.if-value.true in
-    let k = three_room s a.out.now l.out l.i l.at.0 c.loop-i-test.true l.invariant.3 l.invariant.4 c.requires.1 w.0 w.1 in
-    omega arith
-
-pub bounds-out-start-then-value-3 : goal.bounds-out-start-then-value-3
-bounds-out-start-then-value-3 c = let l = c.loop-i in let a = c.args in let s = a.scalars.now in
-    let w = between 0x7FF 0xFFFF (get_or s l.i 0) c.if-value.true in
-    let k = three_room s a.out.now l.out l.i l.at.0 c.loop-i-test.true l.invariant.3 l.invariant.4 c.requires.1 w.0 w.1 in
-    simp length-set (omega arith)
-
-pub overflow_add-at-then-value : goal.overflow_add-at-then-value
-overflow_add-at-then-value c = let l = c.loop-i in let a = c.args in let s = a.scalars.now in
-    let w = between 0x7FF 0xFFFF (get_or s l.i 0) c.if-value.true in
-    let k = three_room s a.out.now l.out l.i l.at.0 c.loop-i-test.true l.invariant.3 l.invariant.4 c.requires.1 w.0 w.1 in
-    omega arith
-
-pub loop-i-preserved-then-value : goal.loop-i-preserved-then-value
-loop-i-preserved-then-value c = let l = c.loop-i in let a = c.args in let s = a.scalars.now in
-    let w = between 0x7FF 0xFFFF (get_or s l.i 0) c.if-value.true in
-    let t = three_again s a.out.now l.out l.i l.at.0 c.loop-i-test.true l.invariant.3 l.invariant.4 c.requires.1 w.0 w.1 _ _ _ c.lead_of_three.ensures c.tail.ensures c.tail-then-value.ensures l.invariant.5 in
-    (omega arith, simp length-set l.invariant.1, t.0, t.1, t.2, t.3)
+pub slice_bounds-copy_from_slice-end : goal.slice_bounds-copy_from_slice-end
+slice_bounds-copy_from_slice-end c = let k = three_fit (goal.at.slice_bounds-copy_from_slice-end c).Then-value in omega arith
 
 pub unwrap-requires : goal.unwrap-requires
-unwrap-requires c = let l = c.loop-i in let s = c.args.scalars.now in
-    scalar_written c.sequence_of.result (get_or s l.i 0) c.sequence_of.ensures (next_scalar s l.i c.loop-i-test.true l.invariant.3)
+unwrap-requires c = let l = c.loop-value in let s = c.args.scalars.now in
+    scalar_written c.sequence_of.result (get_or s l.value-index 0) c.sequence_of.ensures (next_scalar s l.value-index c.loop-value-test.true l.invariant.1)
 
 pub put-at-requires : goal.put-at-requires
-put-at-requires c = let l = c.loop-i in let a = c.args in let s = a.scalars.now in
+put-at-requires c = let l = c.loop-value in let a = c.args in
     let e = ap paper_sequence (sym c.unwrap.ensures) ∙ c.sequence_of.ensures in
-    let k = fill_room s a.out.now l.out l.i l.at.0 _ c.loop-i-test.true e l.invariant.3 l.invariant.4 c.requires.1 in
+    let k = fill_room a.scalars.now a.out.now l.out l.value-index l.at.0 _ c.loop-value-test.true e l.invariant.1 l.invariant.2 c.requires.1 in
     omega arith
 
-pub loop-i-preserved : goal.loop-i-preserved
-loop-i-preserved c = let l = c.loop-i in let a = c.args in let s = a.scalars.now in
-    let e = ap paper_sequence (sym c.unwrap.ensures) ∙ c.sequence_of.ensures in
-    let t = fill_again s a.out.now l.out l.i l.at.0 _ c.loop-i-test.true e l.invariant.3 l.invariant.4 c.requires.1 l.invariant.5 in
-    let k = fill_room s a.out.now l.out l.i l.at.0 _ c.loop-i-test.true e l.invariant.3 l.invariant.4 c.requires.1 in
-    let p = c.put-at.ensures in
-    (omega arith, omega arith, rw p.1 k, t.0, rw p.1 t.1, rw (p.0, p.1) t.2)
+pub loop-value-preserved : goal.loop-value-preserved
+loop-value-preserved c = let l = c.loop-value in let a = c.args in let s = a.scalars.now in let i = l.value-index in
+    elim c.if-value-le127.branch [
+      | then-value-le127 w ↦
+          rw (w.out-is, w.at-is) (one_again s a.out.now l.out i l.at.0 c.loop-value-test.true l.invariant.1 l.invariant.2 c.requires.1 w.if-value-le127.true l.invariant.3)
+      | else-value-le127+then-value w ↦
+          let v = between 0x7FF 0xFFFF (get_or s i 0) w.if-value.true in
+          let m = three_room s a.out.now l.out i l.at.0 c.loop-value-test.true l.invariant.1 l.invariant.2 c.requires.1 v.0 v.1 in
+          let t = three_again s a.out.now l.out i l.at.0 c.loop-value-test.true l.invariant.1 l.invariant.2 c.requires.1 v.0 v.1 _ _ _ w.lead_of_three.ensures w.tail.ensures w.tail-then-value.ensures l.invariant.3 in
+          let q = exchanged l.out (w.lead_of_three.result ∷ w.tail.result ∷ w.tail-then-value.result ∷ []) _ l.at.0 _ w.copy_from_slice.ensures.after (omega arith) (omega arith) in
+          rw (w.out-is, w.at-is) (t.0, t.1, t.2, q ∙ t.3)
+      | else-value-le127+else-value w ↦
+          let e = ap paper_sequence (sym w.unwrap.ensures) ∙ w.sequence_of.ensures in
+          let t = fill_again s a.out.now l.out i l.at.0 _ c.loop-value-test.true e l.invariant.1 l.invariant.2 c.requires.1 l.invariant.3 in
+          let k = fill_room s a.out.now l.out i l.at.0 _ c.loop-value-test.true e l.invariant.1 l.invariant.2 c.requires.1 in
+          let p = w.put-at.ensures in
+          rw (w.out-is, w.at-is) (rw p.1 k, t.0, rw p.1 t.1, rw (p.0, p.1) t.2)
+    ]
 
 pub returns : goal.returns
-returns c = let l = c.loop-i in fill_all _ _ _ l.i l.at.0 c.loop-i-test.false l.invariant.4 l.invariant.2 l.invariant.5
+returns c = let l = c.loop-value in fill_all _ _ _ l.value-index l.at.0 c.loop-value-test.false l.invariant.2 l.invariant.0 l.invariant.3

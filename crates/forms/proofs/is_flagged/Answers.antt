@@ -1,18 +1,16 @@
-use mathlib.Core.Path.{sym, ◌∙◌}
-use Rattle.frame.proofs.Items.{flags_good, flags_bad, flags_end, flagged-whole, flagged-part}
+use mathlib.Core.Path.{sym}
+use Prim.Native.Nat.{ℕ, ◌≤◌, ◌<◌}
+use borrow.Author.Rules.{rules}
+use borrow.Author.Tests.{tests}
+use Rattle.std.proofs.lemmas.Iterator.{cases_from_all}
+use Rattle.frame.proofs.Items.{flagged-part}
+use Rattle.forms.proofs.Flags.{flags_come, flagged_by}
 use Rattle.forms.proofs.is_flagged.Goals as goal
 
 pub returns-then-items-ne0 : goal.returns-then-items-ne0
 returns-then-items-ne0 c = sym (flagged-part c.args.items.now c.if-items-ne0.true)
 
-pub loop-i-init : goal.loop-i-init
-loop-i-init c = sym (flagged-whole c.args.items.now c.if-items-ne0.false)
-
-pub returns-then-items-i-gt1 : goal.returns-then-items-i-gt1
-returns-then-items-i-gt1 c = sym (flags_bad c.args.items.now c.loop-i.i c.loop-i-test.true c.if-items-i-gt1.true) ∙ c.loop-i.invariant
-
-pub loop-i-preserved : goal.loop-i-preserved
-loop-i-preserved c = sym (flags_good c.args.items.now c.loop-i.i c.loop-i-test.true c.if-items-i-gt1.false) ∙ c.loop-i.invariant
-
 pub returns : goal.returns
-returns c = sym (flags_end c.args.items.now c.loop-i.i c.loop-i-test.false) ∙ c.loop-i.invariant
+returns c = let s = c.args.items.now in
+    let y = flags_come s _ c.chunks_exact.ensures.rest c.chunks_exact.ensures.size in
+    flagged_by s _ c.if-items-ne0.false (cases_from_all _ _ _ (λ (x : ℕ). x ≤ 1) (λ (x : ℕ). 1 < x) c.all.ensures.ran y (λ x q k. search (rules, tests)) (λ x q k. search (rules, tests)))

@@ -5,14 +5,15 @@ use Rattle.utf8.proofs.Lead.{no_ones}
 use Rattle.utf8.specs.Rfc3629.{UTF8-char}
 use Rattle.sequences.proofs.read_scalar.Goals as goal
 
-pub returns-then-bytes-start : goal.returns-then-bytes-start
-returns-then-bytes-start c = let s = c.args.bytes.now in let i = c.args.at.0 in cut_off 1 UTF8-char s i refl (omega arith)
+pub returns-in_default : goal.returns-in_default
+returns-in_default c = cut_off 1 UTF8-char c.args.bytes.now c.args.at.0 refl (omega (arith, c.in_default.ensures.lookup.3))
 
 pub returns-then-ones-eq0 : goal.returns-then-ones-eq0
-returns-then-ones-eq0 c = let s = c.args.bytes.now in let i = c.args.at.0 in
-    let b = no_ones _ (c.shared_slice_known-2-1.given i).fits (sym c.leading_ones-ones.ensures ∙ c.if-ones-eq0.true) in
-    ascii s i _ c.if-bytes-start.false b c.wide.ensures
+returns-then-ones-eq0 c = let s = c.args.bytes.now in let i = c.args.at.0 in let g = c.in-Some.ensures.lookup.3 in
+    let e = rw (g.1 0) at c.leading_ones-ones.ensures in
+    ascii s i _ g.0 (no_ones _ (c.type_inv.bytes i).fits (sym e ∙ c.if-ones-eq0.true)) (c.from.ensures ∙ g.1 0)
 
 pub returns : goal.returns
-returns c = let s = c.args.bytes.now in let i = c.args.at.0 in
-    c.read_long.ensures ∙ announces s i _ c.if-bytes-start.false (c.shared_slice_known-2-1.given i).fits c.leading_ones-ones.ensures
+returns c = let s = c.args.bytes.now in let i = c.args.at.0 in let g = c.in-Some.ensures.lookup.3 in
+    let e = rw (g.1 0) at c.leading_ones-ones.ensures in
+    c.read_long.ensures ∙ announces s i _ g.0 (c.type_inv.bytes i).fits e

@@ -1,16 +1,10 @@
 use mathlib.Core.Path.{refl}
-use native.Mathlib.Omega.{arith}
 use Rattle.text.proofs.Scans.{all-at, all-at-end}
-use Rattle.text.specs.Text.{all}
 use Rattle.edit.specs.Refusals.{small}
-use borrow.Author.Rules.{rules}
 use Rattle.too_big.proofs.all_small.Goals as goal
 
-pub loop-i-init : goal.loop-i-init
-loop-i-init c = (search rules, refl)
-
-pub loop-i-preserved : goal.loop-i-preserved
-loop-i-preserved c = let l = c.loop-i in (omega arith, all-at _ l.i c.loop-i-test.true small l.all _ refl l.invariant.1)
+pub loop-x-preserved : goal.loop-x-preserved
+loop-x-preserved c = let l = c.loop-x in all-at _ l.x-index c.loop-x-test.true small l.all _ refl l.invariant
 
 pub returns : goal.returns
-returns c = let l = c.loop-i in all-at-end _ l.i c.loop-i-test.false small l.all l.invariant.1
+returns c = let l = c.loop-x in all-at-end _ l.x-index c.loop-x-test.false small l.all l.invariant

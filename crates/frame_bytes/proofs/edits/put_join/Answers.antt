@@ -1,5 +1,6 @@
 use Prim.Native.Nat.{ℕ}
 use native.Mathlib.Omega.{arith}
+use borrow.Author.Rules.{rules}
 use lib.ListN.{length-set}
 use Rattle.frame_bytes.proofs.Framed.{join-put}
 use Rattle.frame_bytes.proofs.edits.put_join.Goals as goal
@@ -18,4 +19,4 @@ shape_of-bytes c = simp length-set (omega (arith, length-set {A = ℕ} c.args.by
 
 pub returns : goal.returns
 returns c = let a = c.args in
-    join-put a.bytes.now _ _ a.row a.count a.spaced _ (omega arith) c.flag_byte.ensures c.put_number.ensures c.put_number-2.ensures
+    join-put a.bytes.now _ _ a.row a.count a.spaced c.from.result (omega arith) (search rules) c.put_number.ensures c.put_number-2.ensures

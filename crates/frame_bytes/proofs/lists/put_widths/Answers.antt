@@ -1,21 +1,21 @@
-use mathlib.Core.Path.{refl}
+use mathlib.Core.Logic.{inl, inr}
 use native.Mathlib.Omega.{arith}
-use Rattle.frame_bytes.proofs.Pasted.{fill_none}
-use Rattle.frame_bytes.proofs.Listed.{widths_room, widths_more, widths_done}
+use Rattle.frame_bytes.proofs.Listed.{widths_start, widths_room, widths_more, widths_done}
 use Rattle.frame_bytes.proofs.lists.put_widths.Goals as goal
 
 pub loop-i-init : goal.loop-i-init
-loop-i-init c = (omega arith, refl, fill_none _ _)
+loop-i-init c = let a = c.args in let y = c.enumerate-i-items.ensures in let z = c.zip.ensures in
+    rw (c.into_iter-i-iterator.ensures.into_iter_gives, y.source, z.first) (widths_start a.widths.now a.pads.now a.bytes.now _ _ _ c.requires.0 c.iter.ensures.rest z.second.0 y.count)
 
 pub put_pair-requires : goal.put_pair-requires
-put_pair-requires c = omega (arith, widths_room c.args.widths.now c.args.pads.now c.args.bytes.now c.loop-i.bytes c.loop-i.i c.loop-i.at c.loop-i.invariant.2 c.loop-i-test.true)
-
-pub overflow_add-at : goal.overflow_add-at
-overflow_add-at c = omega (arith, widths_room c.args.widths.now c.args.pads.now c.args.bytes.now c.loop-i.bytes c.loop-i.i c.loop-i.at c.loop-i.invariant.2 c.loop-i-test.true)
+put_pair-requires c = let a = c.args in let l = c.loop-i in let d = c.in-Some.ensures.steps in
+    let r = widths_room a.widths.now a.pads.now a.bytes.now l.bytes _ _ _ l.invariant c.in-Some.width.now c.in-Some.pad.now _ _ d.0.0 d.0.1 in
+    omega (arith, r, d.1)
 
 pub loop-i-preserved : goal.loop-i-preserved
-loop-i-preserved c = let a = c.args in let l = c.loop-i in
-    (omega arith, omega arith, widths_more a.widths.now a.pads.now a.bytes.now l.bytes l.i l.at l.invariant.2 _ c.loop-i-test.true c.requires.1 c.put_pair.ensures)
+loop-i-preserved c = let a = c.args in let l = c.loop-i in let d = c.in-Some.ensures.steps in
+    widths_more a.widths.now a.pads.now a.bytes.now l.bytes _ _ _ l.invariant c.in-Some.width.now c.in-Some.pad.now _ _ d.0.0 d.0.1 _ _ d.2 c.requires.1 (rw d.1 at c.put_pair.ensures)
 
 pub returns : goal.returns
-returns c = let a = c.args in let l = c.loop-i in widths_done a.widths.now a.pads.now a.bytes.now l.bytes l.i l.at l.invariant.2 c.loop-i-test.false
+returns c = let a = c.args in let l = c.loop-i in
+    widths_done a.widths.now a.pads.now a.bytes.now l.bytes _ _ _ l.invariant (elim c.in-None.ensures.steps.0 [ inl x ↦ x.1.0 | inr y ↦ omega (arith, y.1.0, l.invariant.0) ])

@@ -1,19 +1,26 @@
-use mathlib.Core.Path.{◌≡◌, refl, sym, ◌∙◌}
-use Prim.Native.Nat.{◌*◌, ◌/◌}
+use mathlib.Core.Path.{refl, sym, ◌∙◌}
 use native.Mathlib.Omega.{arith}
-use lib.ListN.{length, length-set}
-use lib.Seq.{get_or-drop}
+use lib.ListN.{get_or-append}
 use Rattle.frame.specs.Forms.{flags_in}
-use Rattle.reader.proofs.Gathers.{items-none, items_more}
+use Rattle.reader.proofs.Gathers.{gathers-none, gathers-all, chunk-counts, gathers-more}
 use Rattle.reader.proofs.lists.fill_flags.Goals as goal
 
 pub loop-i-init : goal.loop-i-init
-loop-i-init c = let a = c.args in (omega arith, refl, items-none 5 _ a.bytes.now a.out.now)
+loop-i-init c = let a = c.args in let h = c.chunks_exact.ensures in let y = c.enumerate-i-items.ensures in let z = c.into_iter-i-iterator.ensures.into_iter_gives in
+    rw (z, y.source) (gathers-none 5 _ a.bytes.now a.out.now _ _ _ _ h.size y.count h.rest refl)
+
+pub bounds-item-4 : goal.bounds-item-4
+bounds-item-4 c = omega (arith, c.in-Some.ensures.steps.0.1.1, c.loop-i.invariant.0)
+
+pub bounds-out-i : goal.bounds-out-i
+bounds-out-i c = let l = c.loop-i in let a = c.args in let d = c.in-Some.ensures.steps in
+    omega (arith, d.1, chunk-counts 5 _ a.bytes.now a.out.now _ _ _ _ l.invariant (omega arith) c.in-Some.item.now _ d.0.1.0 d.0.1.1)
 
 pub loop-i-preserved : goal.loop-i-preserved
-loop-i-preserved c = let a = c.args in let l = c.loop-i in
-    (omega arith, simp length-set l.invariant.1, items_more 5 _ l.i a.bytes.now _ _ _ l.invariant.2 (omega arith) (c.wide.ensures ∙ sym (get_or-drop (l.i * 5) a.bytes.now 4 0)))
+loop-i-preserved c = let l = c.loop-i in let a = c.args in let d = c.in-Some.ensures.steps in
+    let m = chunk-counts 5 _ a.bytes.now a.out.now _ _ _ _ l.invariant (omega arith) c.in-Some.item.now _ d.0.1.0 d.0.1.1 in
+    gathers-more 5 _ a.bytes.now a.out.now _ _ _ _ l.invariant (omega arith) c.in-Some.item.now _ d.0.1.0 d.0.1.1 c.in-Some.i _ _ _ d.1 d.2 d.0.0 (omega arith) (c.from.ensures ∙ sym (get_or-append c.in-Some.item.now _ 0 4 (omega (arith, d.0.1.1, l.invariant.0))))
 
 pub returns : goal.returns
 unfolding flags_in
-returns c = let a = c.args in let l = c.loop-i in let z : l.i ≡ length a.bytes.now / 5 = omega arith in rw z at l.invariant.2
+returns c = let l = c.loop-i in let a = c.args in gathers-all 5 _ a.bytes.now a.out.now _ _ _ _ l.invariant (omega arith) c.in-None.ensures.steps.0.1.0
