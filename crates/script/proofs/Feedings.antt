@@ -1,6 +1,6 @@
 -- What the feeder prints, call by call, up to the script's end.
 use mathlib.Core.Path.{◌≡◌, sym, ap, ◌∙◌}
-use mathlib.Core.Bool.{Bool, true}
+use mathlib.Core.Bool.{Bool}
 use mathlib.Core.List.{List, [], ◌++◌, append-nil}
 use Prim.Native.Nat.{ℕ, ◌+◌, ◌-◌, ◌≤◌}
 use lib.ListN.{length, take, drop, take-append-drop, drop_of_length-le}
@@ -14,8 +14,10 @@ use Rattle.feed.specs.Feeds.{Fed, fed_by, closing, whole}
 use Rattle.feed.specs.Calls.{Left, left, leaves, feed_leaves}
 use Rattle.feed.proofs.Ends.{printed-part}
 use Rattle.feed.proofs.Wholes.{whole-none, whole-more}
-use Rattle.script.specs.declared.Went.{Went}
-use Rattle.script.specs.Courses.{Going, Goes}
+use Rattle.std.specs.Prelude.{Result, Ok}
+use Rattle.utf8.specs.declared.NoRoom.{NoRoom}
+use Rattle.script.specs.declared.feeding.FedOver.{FedOver}
+use Rattle.script.specs.Courses.{Going, Goes, GoesFed}
 use Rattle.script.proofs.Goings.{comes_as, ends_as}
 
 -- from the byte at n on: k bytes, and then the rest
@@ -28,7 +30,7 @@ from_on s p w n k =
 
 module _ (keep : Bool) (w b : List ℕ) where
   -- a call of the feeder with the bytes from n on, and what it printed behind the first j
-  module _ (c : Script) (k n j : ℕ) (l t m o input a a' : List ℕ) (r : Course) (l' t' m' o' : List ℕ) (q : Went)
+  module _ (c : Script) (k n j : ℕ) (l t m o input a a' : List ℕ) (r : Course) (l' t' m' o' : List ℕ) (q : Result ℕ NoRoom)
       (e : left r l' t' m' o' ≡ feed_leaves c (take k l) (take r.taken (take (length input - n) (drop n input))) t m o) where
     abbrev x : Fed
     x = fed_by (state_of c t m) (take k l) (take r.taken (drop n input))
@@ -52,12 +54,12 @@ module _ (keep : Bool) (w b : List ℕ) where
 
   -- all bytes are fed
   pub fed-over : (c : Script) (k n j : ℕ) (l t m input a : List ℕ) → length input ≤ n → k ≤ length l
-      → Going keep w b j (whole (fed_by (state_of c t m) (take k l) (drop n input))) a → Goes keep w b (record { fits = true; printed = j }) (closing (state_of c t m) k) a
+      → Going keep w b j (whole (fed_by (state_of c t m) (take k l) (drop n input))) a → GoesFed keep w b (Ok (record { script = c; pending = k; printed = j })) (λ (f : FedOver). closing (state_of f.script t m) f.pending) a
   fed-over c k n j l t m input a h i g =
       let s : State = state_of c t m in
       let e : whole (fed_by s (take k l) (drop n input)) ≡ closing s k =
       ap (λ (z : List ℕ). whole (fed_by s (take k l) z)) (drop_of_length-le input h) ∙ whole-none s (take k l) ∙ ap (closing s) (length-take-le k l i) in
-      ends_as keep w b j (whole (fed_by s (take k l) (drop n input))) (closing s k) a e g
+      ends_as keep w b (record { script = c; pending = k; printed = j }) (λ (f : FedOver). closing (state_of f.script t m) f.pending) (whole (fed_by s (take k l) (drop n input))) a e g
 
   -- x is all that is still to come, and stands in front of y
   pub last_comes : (x o y a : List ℕ) (j n : ℕ) → y ≡ over x o → n ≡ length x → Going keep w b j x a → Going keep w b j (take (n - 0) (drop 0 y) ++ []) a
