@@ -4,10 +4,11 @@ use Rattle.promise.specs.Paper.{Paper, done, refused}
 use Rattle.promise.specs.Slices.{over}
 use Rattle.edit.specs.declared.Refusal.{Refusal}
 use Rattle.edit.specs.declared.Refusal.TheVariants.{TooMany, BadPayload, NoRecord}
-use Rattle.edit.specs.Call.{first_of}
+use Rattle.edit.specs.Call.{number_of, offset_of, first_of}
 use Rattle.select.specs.declared.Sel.{Sel}
 use Rattle.sorting.specs.Flat.{flat, sels}
 use Rattle.merge.specs.Merging.{merged}
+use Rattle.std.specs.Prelude.{Result, Ok, Err}
 
 -- 3 TooMany: "selections over its limit", which is "up to 4,096 numbers (1,024 selections, four to each)"; 4 BadPayload:
 -- "selections not in fours"; 9 NoRecord: "merge output shorter than input", whatever would merge
