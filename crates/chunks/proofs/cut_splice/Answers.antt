@@ -1,3 +1,4 @@
+use Prim.Native.Nat.{◌-◌}
 use Rattle.text.proofs.Order.{col_min}
 use Rattle.text.specs.Text.{is_lf}
 use Rattle.text.proofs.Laws.{start-le}
