@@ -1,8 +1,6 @@
 -- The errors of UTF-8 are told as the refusals that they are.
 use mathlib.Core.Path.{◌≡◌, refl}
-use Prim.Native.Nat.{ℕ}
-use Rattle.std.specs.Prelude.{Result, Err}
-use Rattle.promise.specs.Paper.{Paper}
+use Rattle.std.specs.Prelude.{Err}
 use Rattle.utf8.specs.declared.DecodeError.{DecodeError}
 use Rattle.utf8.specs.declared.DecodeError.TheVariants as decode_error
 use Rattle.utf8.specs.declared.EncodeError.{EncodeError}

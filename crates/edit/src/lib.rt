@@ -8,9 +8,9 @@ ghost use Rattle.edit.specs.Call.{number_of};
 use text::{Position, Row};
 use utf8::{BadText, BadUtf8, ByteOffset, DecodeError, EncodeError, NoRoom};
 
-// A text's used length in its buffer, the cursor, and how many edits were accepted, modulo 2^64.
+// A text's used length in the buffer that C lends, the cursor, and how many edits were accepted, modulo 2^64.
 #[repr(C)]
-#[derive(Clone, Copy)]
+#[derive(Clone, Copy, PartialEq, Eq)]
 pub struct View {
     pub used: usize,
     pub cursor: Position,
@@ -34,11 +34,7 @@ impl View {
 pub fn extent(a: u32, b: u32) -> usize
     ensures { result ≡ suc (max a b - min a b) }
 {
-    if a <= b {
-        (b - a) as usize + 1
-    } else {
-        (a - b) as usize + 1
-    }
+    a.abs_diff(b) as usize + 1
 }
 
 #[derive(Clone, Copy, Debug, PartialEq, Eq)]

@@ -7,7 +7,7 @@ ghost use Rattle.utf8.specs.Rfc3629.{scalar};
 ghost use Rattle.utf8.specs.Reading.{all_scalar, writing};
 ghost use Rattle.utf8.specs.Answers.{octets_of, paper_sequence, paper_octet_count, paper_encoded};
 ghost use Rattle.promise.specs.Slices.{over};
-ghost use Rattle.utf8.specs.Calls.{outcome, octets_in, sequence_of, octet_count, encoded};
+ghost use Rattle.utf8.specs.Calls.{outcome, sequence_of, octet_count, encoded};
 
 use utf8::{BadText, ByteOffset, EncodeError, Sequence};
 

@@ -1,4 +1,4 @@
-// What a delete cuts, found in the text as it stands.
+// What a delete cuts, found in the text as it stands. `single` has the same until `apply` stands on `work`.
 ghost use Rattle.std.specs.Prelude.{◌≡◌, ◌≤◌, ◌<◌, length};
 ghost use Rattle.text.specs.Rows.{last_row};
 ghost use Rattle.text.specs.Text.{is_lf, text_limit};

@@ -16,7 +16,7 @@ pub const SHORT_LINE: usize = 512;
 // The most bytes that a short line holds.
 pub const SHORT_BYTES: usize = 256;
 
-// A frame's kind with its numbers.
+// What a line is, with its numbers. A malformed line is one of the kinds, and no error: a script counts it, prints for it and goes on.
 #[derive(Clone, Copy)]
 pub enum Head {
     Malformed,

@@ -20,6 +20,7 @@ fn flag_at(flags: &[u32], k: usize) -> u32
     flags.get(k).copied().unwrap_or(0)
 }
 
+// `resolve` has the same until `apply` stands on `work`.
 fn any_flag(flags: &[u32]) -> bool
     ensures { result ≡ any_flag flags.now }
 {

@@ -44,10 +44,6 @@ impl Lent {
     }
 }
 
-fn is_same_view(a: View, b: View) -> bool {
-    (a.used, a.cursor, a.changes) == (b.used, b.cursor, b.changes)
-}
-
 fn try_edit(out: &impl Print, edit: Edit, trial: Trial) -> io::Result<()> {
     let mut payload = [FILL; ROOM];
     let mut first = [FILL; ITEMS];
@@ -86,7 +82,7 @@ fn call(
         &mut lent.first[..(first_room as usize).min(ITEMS)],
         &mut lent.second[..(second_room as usize).min(ITEMS)],
     );
-    let is_same = before == lent.checksum() && is_same_view(trial.view, view);
+    let is_same = before == lent.checksum() && trial.view == view;
     print_answer(out, answer, view, &lent, is_same)
 }
 

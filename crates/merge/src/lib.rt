@@ -1,4 +1,4 @@
-// Selections in a flat slice, four numbers to each: merged where they share a position.
+// Selections in a flat slice, four numbers to each as C lends them: merged where they share a position.
 #![tactic(auto)]
 
 mod collapsing;

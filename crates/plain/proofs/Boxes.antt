@@ -1,6 +1,6 @@
 -- What is told of a box.
 use mathlib.Core.Path.{◌≡◌, refl}
-use Rattle.std.specs.Prelude.{Result, Err, Option, Some, None}
+use Rattle.std.specs.Prelude.{Err, Option, Some, None}
 use Rattle.promise.specs.Paper.{done}
 use Rattle.text.specs.declared.Position.{Position}
 use Rattle.edit.specs.Call.{number_of}

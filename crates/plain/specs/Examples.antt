@@ -16,10 +16,7 @@ use Rattle.edit.specs.Edits.{row_at}
 use Rattle.plain.specs.declared.Numbers.{Numbers}
 use Rattle.plain.specs.Meanings.{meant, numbers_of}
 use Rattle.plain.specs.Told.{told_count, told_done, told_clamped, told_fit, told_span, told_bounds, ends_of, told_view, told_line, no_line}
-use Rattle.std.specs.Prelude.{Result, Ok, Err, Option, Some, None}
-use Rattle.text.specs.declared.Position.{Position}
-use Rattle.utf8.specs.declared.BadText.{BadText}
-use Rattle.fit.specs.declared.BoxError.{BoxError}
+use Rattle.std.specs.Prelude.{Err, Some}
 use Rattle.fit.specs.declared.BoxError.TheVariants as box_error
 
 abbrev pub of_kind : ℕ → Numbers

@@ -190,7 +190,7 @@ pub fn told_clamped(clamped: Result<Position, BadText>) -> Found
 {
     match clamped {
         Ok(at) => found_at(at),
-        Err(BadText) => not_found(1),
+        Err(BadText) => not_found(Refusal::BadText.number()),
     }
 }
 

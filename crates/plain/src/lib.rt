@@ -1,4 +1,5 @@
-// Records of numbers for callers that know no enums: an edit, and each answer with the number of its refusal, or 0.
+// Records of numbers for callers that know no enums: an edit, and each answer with the number of its refusal, or 0. The interface to C needs
+// them: what goes by value there has no enum, so a kind is a number and what may be missing has a flag.
 #![tactic(auto)]
 
 mod answers;
@@ -9,9 +10,9 @@ pub use answers::{
     not_changed, not_counted, not_found, told_answer, told_bounds, told_clamped, told_count,
     told_decoded, told_encoded, told_ends, told_fit, told_span,
 };
-use edit::{Edit, View};
+use edit::View;
 pub use edits::{meant_edit, meant_selection, told_edit};
-use select::{Sel, Selection};
+use select::Sel;
 use text::Position;
 
 // An edit's numbers, its kind among them. What the kind does not use is 0, or not read.

@@ -107,7 +107,7 @@ fn put_from(text: &[u32], at: Position, lens: &[u32], steps: &mut [u32]) -> usiz
 {
     let found = find_row(text, at.row);
     let start = found.start.0;
-    if found.row.0 < at.row.0 {
+    if found.row < at.row {
         return 0;
     }
     put_steps(
@@ -149,7 +149,7 @@ fn cut_from(text: &[u32], at: Position, widths: &[u32], pads: &[u32], steps: &mu
 {
     let found = find_row(text, at.row);
     let start = found.start.0;
-    if found.row.0 < at.row.0 {
+    if found.row < at.row {
         return 0;
     }
     cut_steps(
@@ -201,6 +201,5 @@ pub fn resolve_block(text: &[u32], start: Position, end: Position, steps: &mut [
         col: start.col.min(end.col),
     };
     let widths = [breadth; 256];
-    let none = [0; 1];
-    resolve_chunks(text, corner, &widths[0..height], &none[0..0], steps)
+    resolve_chunks(text, corner, &widths[0..height], &[], steps)
 }

@@ -5,6 +5,7 @@ ghost use Rattle.script.specs.Courses.{Going, Goes};
 
 use utf8::NoRoom;
 
+// A flag and no closure: it is asked here alone, in one line.
 fn emit(part: &[u8], out: &mut [u8], at: usize, keep: bool)
     requires { at + length part.now ≤ length out.old }
     ensures { out.new ≡ cond keep (paste out.old at part.now (length part.now)) out.old }

@@ -68,7 +68,7 @@ pub fn line_cut(text: &[u32], start: Row, end: Row) -> LineCut
     let last = last_row(text);
     let lo = start.min(end).min(last);
     let hi = start.max(end).min(last);
-    if hi.0 < last.0 {
+    if hi < last {
         return rows_between(text, lo, hi);
     }
     if 0 < lo.0 {

@@ -81,7 +81,10 @@ pub fn told_cursor(view: View, set: Result<View, BadText>) -> Viewed
             refusal: 0,
             view: after,
         },
-        Err(BadText) => Viewed { refusal: 1, view },
+        Err(BadText) => Viewed {
+            refusal: Refusal::BadText.number(),
+            view,
+        },
     }
 }
 
@@ -90,7 +93,7 @@ pub fn told_mark_read(read: Result<Sel, BadFrame>) -> SelFound
 {
     match read {
         Ok(mark) => found_sel(mark),
-        Err(BadFrame) => no_sel(10),
+        Err(BadFrame) => no_sel(Refusal::BadFrame.number()),
     }
 }
 

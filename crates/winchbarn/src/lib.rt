@@ -184,7 +184,7 @@ pub fn winchbarn_undoable(
     match meant {
         Some(e) => told_undoable(undoable(text, view, e, payload, first, second)),
         None => Said {
-            refusal: 10,
+            refusal: Refusal::BadFrame.number(),
             yes: false,
         },
     }
@@ -222,7 +222,7 @@ pub fn winchbarn_shift_position(
     let meant = meant_edit(edit);
     match meant {
         Some(e) => { told_shifted(shift_position(text, view, e, payload, first, second, pos)) }
-        None => not_found(10),
+        None => not_found(Refusal::BadFrame.number()),
     }
 }
 
@@ -240,7 +240,7 @@ pub fn winchbarn_shift_sel(
     let meant = meant_edit(edit);
     match meant {
         Some(e) => { told_sel_shifted(shift_sel(text, view, e, payload, first, second, sel)) }
-        None => no_sel(10),
+        None => no_sel(Refusal::BadFrame.number()),
     }
 }
 
@@ -286,7 +286,7 @@ pub fn winchbarn_selection_head(kind: u32, sel: Sel) -> Found
     let meant = meant_selection(kind, sel);
     match meant {
         Some(s) => found_at(s.head()),
-        None => not_found(10),
+        None => not_found(Refusal::BadFrame.number()),
     }
 }
 
@@ -296,7 +296,7 @@ pub fn winchbarn_selection_anchor(kind: u32, sel: Sel) -> Found
     let meant = meant_selection(kind, sel);
     match meant {
         Some(s) => found_at(s.anchor()),
-        None => not_found(10),
+        None => not_found(Refusal::BadFrame.number()),
     }
 }
 
@@ -306,7 +306,7 @@ pub fn winchbarn_selection_extend_to(kind: u32, sel: Sel, pos: Position) -> SelF
     let meant = meant_selection(kind, sel);
     match meant {
         Some(s) => found_sel(told_ends(s.extend_to(pos))),
-        None => no_sel(10),
+        None => no_sel(Refusal::BadFrame.number()),
     }
 }
 
@@ -316,7 +316,7 @@ pub fn winchbarn_selection_row_bounds(kind: u32, sel: Sel) -> Bounds
     let meant = meant_selection(kind, sel);
     match meant {
         Some(s) => told_bounds(s.row_bounds()),
-        None => no_bounds(10),
+        None => no_bounds(Refusal::BadFrame.number()),
     }
 }
 
@@ -326,7 +326,7 @@ pub fn winchbarn_row_span(kind: u32, sel: Sel, row: u32) -> Cover
     let meant = meant_selection(kind, sel);
     match meant {
         Some(s) => told_span(s.row_span(Row(row))),
-        None => no_cover(10),
+        None => no_cover(Refusal::BadFrame.number()),
     }
 }
 

@@ -1,4 +1,5 @@
-// The core's functions for C, as include/winchbarn.h declares them: those of `winchbarn`, exported.
+// The core's functions for C, as include/winchbarn.h declares them: those of `winchbarn`, exported. An archive exports only functions of the
+// crate that it is made of, and no crate can stand on such a one.
 #![tactic(auto)]
 
 ghost use Rattle.std.specs.Prelude.{◌≡◌};

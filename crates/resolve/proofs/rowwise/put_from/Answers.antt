@@ -4,13 +4,14 @@ use mathlib.Core.Path.{refl}
 use lib.ListN.{length-take, length-drop}
 use Rattle.text.proofs.Walks.{span-within}
 use native.Mathlib.Omega.{arith}
+use Rattle.std.proofs.lemmas.Bool.Decides.{nat_tests}
 use borrow.Author.Rules.{rules}
 use Rattle.resolve.proofs.rowwise.put_from.Goals as goal
 
-pub returns-then-found-at : goal.returns-then-found-at
+pub returns-then-lt : goal.returns-then-lt
 unfolding come_by
-returns-then-found-at c = let a = c.args in
-    record { few = omega arith; come = omega arith; by_index = λ x. put-gone a.text.now a.at _ c.find_row-found.ensures a.lens.now _ x c.if-found-at.true }
+returns-then-lt c = let a = c.args in
+    record { few = omega arith; come = omega arith; by_index = λ x. put-gone a.text.now a.at _ c.find_row-found.ensures a.lens.now _ x (grind (arith, nat_tests)) }
 
 pub offset_bounds-text-start : goal.offset_bounds-text-start
 offset_bounds-text-start c = let a = c.args in
@@ -34,4 +35,4 @@ put_steps-requires c = let a = c.args in
 
 pub returns : goal.returns
 returns c = let a = c.args in let e = c.put_steps.ensures in
-    record { few = e.few; come = e.come; by_index = λ x. put-there a.text.now a.at _ c.find_row-found.ensures a.lens.now _ _ x c.if-found-at.false (e.by_index x) }
+    record { few = e.few; come = e.come; by_index = λ x. put-there a.text.now a.at _ c.find_row-found.ensures a.lens.now _ _ x (grind (arith, nat_tests)) (e.by_index x) }
