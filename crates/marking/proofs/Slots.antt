@@ -34,12 +34,12 @@ module _ (n : ℕ) (l : List (Option Sel)) (h : n ≤ length l) where
   count_marks = length-map (take n l) followed ∙ length-take-le n l h
 
   -- the marks of a slice, kept there
-  pub marks_kept : marks_over (marks_in n l) l ≡ l
-  marks_kept = rw (count_marks, slots-followed (take n l)) (take-append-drop n l)
+  pub marks_stay : marks_over (marks_in n l) l ≡ l
+  marks_stay = rw (count_marks, slots-followed (take n l)) (take-append-drop n l)
 
 module _ (ms : List (Followed Sel)) (l : List (Option Sel)) where
-  pub marks-over : (n : ℕ) → length ms ≡ n → marks_in n (marks_over ms l) ≡ ms
-  marks-over n e = rw (take_at (map slot_of ms) (drop (length ms) l) n (length-map ms slot_of ∙ e), followed-slots ms)
+  pub marks_in-over : (n : ℕ) → length ms ≡ n → marks_in n (marks_over ms l) ≡ ms
+  marks_in-over n e = rw (take_at (map slot_of ms) (drop (length ms) l) n (length-map ms slot_of ∙ e), followed-slots ms)
 
   pub over_length : length ms ≤ length l → length (marks_over ms l) ≡ length l
   over_length h = simp (length-append, length-drop, length-map) (omega arith)
