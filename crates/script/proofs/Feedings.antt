@@ -5,8 +5,10 @@ use mathlib.Core.List.{List, [], ◌++◌, append-nil}
 use Prim.Native.Nat.{ℕ, ◌+◌, ◌-◌, ◌≤◌}
 use lib.ListN.{length, take, drop, take-append-drop, drop_of_length-le}
 use lib.Seq.{drop-drop, length-take-le}
+use Rattle.std.specs.Prelude.{Option}
 use Rattle.promise.specs.Slices.{over}
 use Rattle.promise.proofs.Lists.{tail_whole}
+use Rattle.select.specs.declared.Sel.{Sel}
 use Rattle.loading.specs.declared.Script.{Script}
 use Rattle.loading.specs.States.{State, state_of}
 use Rattle.feed.specs.declared.Course.{Course}
@@ -28,7 +30,7 @@ from_on s p w n k =
 
 module _ (keep : Bool) (w b : List ℕ) where
   -- a call of the feeder with the bytes from n on, and what it printed behind the first j
-  module _ (c : Script) (k n j : ℕ) (l t m o input a a' : List ℕ) (r : Course) (l' t' m' o' : List ℕ) (q : Went)
+  module _ (c : Script) (k n j : ℕ) (l t : List ℕ) (m : List (Option Sel)) (o input a a' : List ℕ) (r : Course) (l' t' : List ℕ) (m' : List (Option Sel)) (o' : List ℕ) (q : Went)
       (e : left r l' t' m' o' ≡ feed_leaves c (take k l) (take r.taken (take (length input - n) (drop n input))) t m o) where
     abbrev x : Fed
     x = fed_by (state_of c t m) (take k l) (take r.taken (drop n input))
@@ -51,7 +53,7 @@ module _ (keep : Bool) (w b : List ℕ) where
     fed-goes f g = f w b still (comes_as keep w b j (whole (fed_by (state_of c t m) (take k l) (drop n input))) (take (r.printed - 0) (drop 0 o') ++ still) a comes g)
 
   -- all bytes are fed
-  pub fed-over : (c : Script) (k n j : ℕ) (l t m input a : List ℕ) → length input ≤ n → k ≤ length l
+  pub fed-over : (c : Script) (k n j : ℕ) (l t : List ℕ) (m : List (Option Sel)) (input a : List ℕ) → length input ≤ n → k ≤ length l
       → Going keep w b j (whole (fed_by (state_of c t m) (take k l) (drop n input))) a → Goes keep w b (record { fits = true; printed = j }) (closing (state_of c t m) k) a
   fed-over c k n j l t m input a h i g =
       let s : State = state_of c t m in

@@ -7,6 +7,7 @@ use Prim.Native.Nat.{ℕ, ◌≤◌}
 use native.Mathlib.Omega.{arith}
 use lib.ListN.{length, replicate, length-drop}
 use lib.Seq.{take_all}
+use Rattle.std.specs.Prelude.{None}
 use Rattle.promise.specs.Paper.{done, refused}
 use Rattle.promise.specs.Slices.{over}
 use Rattle.promise.proofs.Bools.{known}
@@ -25,11 +26,11 @@ use Rattle.script.specs.Courses.{Going, Goes}
 -- ---- the opening
 
 module _ (c : Script) (e : c ≡ script_of opening) where
-  pub opens-ready : Ready c (replicate 4_096 0) (replicate 320 0)
+  pub opens-ready : Ready c (replicate 4_096 0) (replicate 64 None)
   opens-ready = rw e ready_opening
 
   pub opens-run : (keep : Bool) (w b : List ℕ) (r : Went) (rest a : List ℕ)
-      → Goes keep (whole (fed_by (state_of c (replicate 4_096 0) (replicate 320 0)) [] w)) b r rest a → Goes keep (output w) b r rest a
+      → Goes keep (whole (fed_by (state_of c (replicate 4_096 0) (replicate 64 None)) [] w)) b r rest a → Goes keep (output w) b r rest a
   opens-run keep w b r rest a g = rw (e, opening-state, whole-output) at g
 
 -- ---- both runs
