@@ -55,6 +55,7 @@ pub fn resolve_join(text: &[u32], row: Row, count: u32, spaced: bool, steps: &mu
     }
 }
 
+// As in `joins`, whose workers go when `apply` stands on `work`.
 fn any_flag(flags: &[u32]) -> bool
     ensures { result ≡ any_flag flags.now }
 {

@@ -1,11 +1,10 @@
 -- What the feeder prints, call by call, up to the script's end.
 use mathlib.Core.Path.{◌≡◌, sym, ap, ◌∙◌}
-use mathlib.Core.Bool.{Bool, true}
+use mathlib.Core.Bool.{Bool}
 use mathlib.Core.List.{List, [], ◌++◌, append-nil}
 use Prim.Native.Nat.{ℕ, ◌+◌, ◌-◌, ◌≤◌}
 use lib.ListN.{length, take, drop, take-append-drop, drop_of_length-le}
 use lib.Seq.{drop-drop, length-take-le}
-use Rattle.std.specs.Prelude.{Option}
 use Rattle.promise.specs.Slices.{over}
 use Rattle.promise.proofs.Lists.{tail_whole}
 use Rattle.select.specs.declared.Sel.{Sel}
@@ -16,8 +15,10 @@ use Rattle.feed.specs.Feeds.{Fed, fed_by, closing, whole}
 use Rattle.feed.specs.Calls.{Left, left, leaves, feed_leaves}
 use Rattle.feed.proofs.Ends.{printed-part}
 use Rattle.feed.proofs.Wholes.{whole-none, whole-more}
-use Rattle.script.specs.declared.Went.{Went}
-use Rattle.script.specs.Courses.{Going, Goes}
+use Rattle.std.specs.Prelude.{Option, Result, Ok}
+use Rattle.utf8.specs.declared.NoRoom.{NoRoom}
+use Rattle.script.specs.declared.feeding.FedOver.{FedOver}
+use Rattle.script.specs.Courses.{Going, Goes, GoesFed}
 use Rattle.script.proofs.Goings.{comes_as, ends_as}
 
 -- from the byte at n on: k bytes, and then the rest
@@ -30,7 +31,7 @@ from_on s p w n k =
 
 module _ (keep : Bool) (w b : List ℕ) where
   -- a call of the feeder with the bytes from n on, and what it printed behind the first j
-  module _ (c : Script) (k n j : ℕ) (l t : List ℕ) (m : List (Option Sel)) (o input a a' : List ℕ) (r : Course) (l' t' : List ℕ) (m' : List (Option Sel)) (o' : List ℕ) (q : Went)
+  module _ (c : Script) (k n j : ℕ) (l t : List ℕ) (m : List (Option Sel)) (o input a a' : List ℕ) (r : Course) (l' t' : List ℕ) (m' : List (Option Sel)) (o' : List ℕ) (q : Result ℕ NoRoom)
       (e : left r l' t' m' o' ≡ feed_leaves c (take k l) (take r.taken (take (length input - n) (drop n input))) t m o) where
     abbrev x : Fed
     x = fed_by (state_of c t m) (take k l) (take r.taken (drop n input))
@@ -54,12 +55,12 @@ module _ (keep : Bool) (w b : List ℕ) where
 
   -- all bytes are fed
   pub fed-over : (c : Script) (k n j : ℕ) (l t : List ℕ) (m : List (Option Sel)) (input a : List ℕ) → length input ≤ n → k ≤ length l
-      → Going keep w b j (whole (fed_by (state_of c t m) (take k l) (drop n input))) a → Goes keep w b (record { fits = true; printed = j }) (closing (state_of c t m) k) a
+      → Going keep w b j (whole (fed_by (state_of c t m) (take k l) (drop n input))) a → GoesFed keep w b (Ok (record { script = c; pending = k; printed = j })) (λ (f : FedOver). closing (state_of f.script t m) f.pending) a
   fed-over c k n j l t m input a h i g =
       let s : State = state_of c t m in
       let e : whole (fed_by s (take k l) (drop n input)) ≡ closing s k =
       ap (λ (z : List ℕ). whole (fed_by s (take k l) z)) (drop_of_length-le input h) ∙ whole-none s (take k l) ∙ ap (closing s) (length-take-le k l i) in
-      ends_as keep w b j (whole (fed_by s (take k l) (drop n input))) (closing s k) a e g
+      ends_as keep w b (record { script = c; pending = k; printed = j }) (λ (f : FedOver). closing (state_of f.script t m) f.pending) (whole (fed_by s (take k l) (drop n input))) a e g
 
   -- x is all that is still to come, and stands in front of y
   pub last_comes : (x o y a : List ℕ) (j n : ℕ) → y ≡ over x o → n ≡ length x → Going keep w b j x a → Going keep w b j (take (n - 0) (drop 0 y) ++ []) a

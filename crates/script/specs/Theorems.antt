@@ -3,7 +3,7 @@ use Rattle.std.specs.Prelude.{List, ℕ}
 use Rattle.promise.specs.Settled.{Settles}
 use Rattle.utf8.specs.Calls.{outcome}
 use Rattle.script.specs.Calls.{paper_ran}
-use Rattle.std.specs.Prelude.{Result, Ok, Err}
+use Rattle.std.specs.Prelude.{Result}
 use Rattle.utf8.specs.declared.NoRoom.{NoRoom}
 
 -- The promise settles the answer and the lent slice.

@@ -1,9 +1,9 @@
 // Parts of the output, one behind the other. They are kept, or only counted.
-ghost use Rattle.std.specs.Prelude.{cond, List, ◌++◌, ◌≡◌, ℕ, ◌+◌, ◌≤◌, length};
+ghost use Rattle.std.specs.Prelude.{cond, List, ◌++◌, ◌≡◌, ℕ, ◌+◌, ◌≤◌, length, IfOk};
 ghost use Rattle.std.proofs.Math.Seq.{paste};
 ghost use Rattle.script.specs.Courses.{Going, Goes};
 
-use crate::Went;
+use utf8::NoRoom;
 
 fn emit(part: &[u8], out: &mut [u8], at: usize, keep: bool)
     requires { at + length part.now ≤ length out.old }
@@ -18,20 +18,14 @@ fn emit(part: &[u8], out: &mut [u8], at: usize, keep: bool)
 }
 
 // A part behind what has been printed, where it fits.
-pub fn add_part(part: &[u8], out: &mut [u8], printed: usize, keep: bool) -> Went
+pub fn add_part(part: &[u8], out: &mut [u8], printed: usize, keep: bool) -> Result<usize, NoRoom>
     requires { printed ≤ length out.old }
-    ensures printed_in_bounds { result.printed ≤ length out.old }
+    ensures printed_in_bounds { IfOk result (λ k. k ≤ length out.old) }
     ensures by_index { (w before rest : List ℕ) → Going keep w before printed (part.now ++ rest) out.old → Goes keep w before result rest out.new }
 {
     if out.len() - printed < part.len() {
-        return Went {
-            fits: false,
-            printed,
-        };
+        return Err(NoRoom);
     }
     emit(part, out, printed, keep);
-    Went {
-        fits: true,
-        printed: printed + part.len(),
-    }
+    Ok(printed + part.len())
 }

@@ -16,15 +16,8 @@ use feeding::feed_all;
 use step::{MARK_ROOM, TEXT_ROOM, opening};
 use utf8::NoRoom;
 
-// How much has been printed, and whether it fits.
-#[derive(Clone, Copy)]
-struct Went {
-    fits: bool,
-    printed: usize,
-}
-
 // Runs the script, and keeps what it prints or only counts it.
-fn run_over(input: &[u8], out: &mut [u8], keep: bool) -> Went
+fn run_over(input: &[u8], out: &mut [u8], keep: bool) -> Result<usize, NoRoom>
     ensures { Goes keep (output input.now) out.old result [] out.new }
 {
     let mut text = [0u32; TEXT_ROOM];
@@ -40,24 +33,15 @@ fn run_over(input: &[u8], out: &mut [u8], keep: bool) -> Went
         &mut room,
         out,
         keep,
-    );
-    let script = fed.script;
-    let went = fed.went;
-    if !went.fits {
-        return went;
-    }
-    let size = close(script, fed.pending, &text, &marks, &mut room);
-    add_part(&room[0..size], out, went.printed, keep)
+    )?;
+    let size = close(fed.script, fed.pending, &text, &marks, &mut room);
+    add_part(&room[0..size], out, fed.printed, keep)
 }
 
 // A refusal changes nothing that is lent, so the script is run twice: the first time to see whether all that it prints fits.
 pub fn run_script(input: &[u8], out: &mut [u8]) -> Result<usize, NoRoom>
     ensures { outcome (paper_ran result) out.new ≡ ran_into input.now out.old }
 {
-    let counted = run_over(input, out, false);
-    if !counted.fits {
-        return Err(NoRoom);
-    }
-    let kept = run_over(input, out, true);
-    Ok(kept.printed)
+    run_over(input, out, false)?;
+    run_over(input, out, true)
 }

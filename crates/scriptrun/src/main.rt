@@ -22,7 +22,8 @@ use step::{MARK_ROOM, TEXT_ROOM, opening};
 // How much one read may bring.
 const INPUT_ROOM: usize = 65_536;
 
-// The script, how much of a line is held, whether more of the input is to be read, and whether nothing has failed.
+// The script, how much of a line is held, whether more of the input is to be read, and whether nothing has failed. Flags, and no `Result`:
+// `take_read` and `take_bytes` promise what was fed where a write has failed too.
 #[derive(Clone, Copy)]
 struct Stand {
     script: Script,

@@ -43,6 +43,6 @@ impl Sel {
     pub fn overlaps(self, other: Sel) -> bool
         ensures { result ≡ overlaps self other }
     {
-        self.start().le(other.end()) & other.start().le(self.end())
+        (self.start() <= other.end()) & (other.start() <= self.end())
     }
 }

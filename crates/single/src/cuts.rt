@@ -1,4 +1,5 @@
-// What a delete cuts, found in the text as it stands.
+// What a delete cuts, found in the text as it stands. `flat` has the same: its workers go when `apply` stands on `work`, and each crate has
+// an edit of it until then.
 ghost use mathlib.Core.Path.{◌≡◌};
 ghost use Prim.Native.Nat.{◌≤◌, ◌<◌};
 ghost use lib.ListN.{length};

@@ -31,7 +31,11 @@ pub fn copy_in(to: &mut [u32], at: CharOffset, from: &[u32])
     requires { at.0 + length from.now ≤ length to.old }
     ensures { to.new ≡ paste to.old at.0 from.now (length from.now) }
 {
-    to[at.0..at.0 + from.len()].copy_from_slice(from);
+    // Not `copy_from_slice`: it calls memmove, and the archive calls memcpy and memset alone.
+    let start = at.0;
+    for (i, x) in from.iter().enumerate() {
+        to[start + i] = *x;
+    }
 }
 
 pub fn fill(text: &mut [u32], at: CharOffset, count: usize, value: u32)

@@ -1,15 +1,20 @@
 -- The order of positions: by row, then column.
-use mathlib.Core.Bool.{Bool, true, false, cond, ◌&&◌, ◌||◌}
+use mathlib.Core.Bool.{Bool, true, false, cond, not, ◌&&◌, ◌||◌}
 use mathlib.Core.Logic.{◌⊎◌, inl, inr, ⊎_elim}
 use mathlib.Core.Path.{◌≡◌, refl, sym, ap, ◌∙◌}
-use Prim.Native.Nat.{ℕ, ◌≤◌, ◌<◌}
+use Prim.Native.Nat.{ℕ, ◌≤◌, ◌<◌, min, max}
 use native.Mathlib.Nat.{eq-or-lt_of_le}
 use native.Mathlib.Omega.{arith}
-use borrow.Author.Tests.{ltb-true, ltb-false, leb-true, leb-false, eqb-true, eqb-false, lt-ltb, le-leb, eq-eqb}
+use borrow.Author.Tests.{ltb-true, ltb-false, leb-true, leb-false, eqb-true, eqb-false, lt-ltb, le-ltb, le-leb, eq-eqb, ne_eqb}
 use lib.Dec.{ltb, eqb, leb}
-use Rattle.std.specs.Ordering.{is_lt, nat_cmp}
+use Rattle.std.specs.Ordering.{is_lt, is_le, is_some_and, nat_cmp, ord_min, ord_max, ordering_then, partial_ordering_then}
 use Rattle.std.specs.declared.cmp.Ordering.TheVariants.{Less, Equal, Greater}
+use Rattle.std.specs.declared.cmp.Ordering.{Ordering}
+use Rattle.std.specs.Prelude.{Some}
 use Rattle.promise.proofs.Bools.{clash, unless}
+use Rattle.text.specs.declared.Row.{Row}
+use Rattle.text.specs.declared.Col.{Col}
+use Rattle.text.specs.declared.CharOffset.{CharOffset}
 use Rattle.text.specs.declared.Position.{Position}
 use Rattle.text.specs.Rows.{at, upto, earlier, later}
 
@@ -177,3 +182,89 @@ later-past p q r = upto-both _ _ (least p q r (later (later p r) q) (two p r q) 
 
     least : (p q r m : Position) → upto p m ≡ true → upto q m ≡ true → upto r m ≡ true → upto (later (later p q) r) m ≡ true
     least p q r m e f g = later-upto (later p q) r m (later-upto p q m e f) g
+
+-- ---- what std's `min`, `max` and `<=` say of the derived order
+
+module _ {A : Type 0} (number : A → ℕ) (a b : A) where
+  least : number (ord_min (λ x y. nat_cmp (number x) (number y)) a b) ≡ min (number a) (number b)
+  least = rw (is_lt-ltb (number b) (number a)) (go (ltb (number b) (number a)) refl)
+    where
+      go : (t : Bool) → ltb (number b) (number a) ≡ t → number (cond t b a) ≡ min (number a) (number b)
+      go true e = omega (arith, ltb-true _ _ e)
+      go false e = omega (arith, ltb-false _ _ e)
+
+  greatest : number (ord_max (λ x y. nat_cmp (number x) (number y)) a b) ≡ max (number a) (number b)
+  greatest = rw (is_lt-ltb (number b) (number a)) (go (ltb (number b) (number a)) refl)
+    where
+      go : (t : Bool) → ltb (number b) (number a) ≡ t → number (cond t a b) ≡ max (number a) (number b)
+      go true e = omega (arith, ltb-true _ _ e)
+      go false e = omega (arith, ltb-false _ _ e)
+
+pub row_min : (a b : Row) {r : Row} → r ≡ ord_min (λ x y. nat_cmp x.0 y.0) a b → r.0 ≡ min a.0 b.0
+row_min a b e = ap (λ (x : Row). x.0) e ∙ least (λ (x : Row). x.0) a b
+
+pub row_max : (a b : Row) {r : Row} → r ≡ ord_max (λ x y. nat_cmp x.0 y.0) a b → r.0 ≡ max a.0 b.0
+row_max a b e = ap (λ (x : Row). x.0) e ∙ greatest (λ (x : Row). x.0) a b
+
+pub col_min : (a b : Col) {r : Col} → r ≡ ord_min (λ x y. nat_cmp x.0 y.0) a b → r.0 ≡ min a.0 b.0
+col_min a b e = ap (λ (x : Col). x.0) e ∙ least (λ (x : Col). x.0) a b
+
+pub col_max : (a b : Col) {r : Col} → r ≡ ord_max (λ x y. nat_cmp x.0 y.0) a b → r.0 ≡ max a.0 b.0
+col_max a b e = ap (λ (x : Col). x.0) e ∙ greatest (λ (x : Col). x.0) a b
+
+pub offset_max : (a b : CharOffset) {r : CharOffset} → r ≡ ord_max (λ x y. nat_cmp x.0 y.0) a b → r.0 ≡ max a.0 b.0
+offset_max a b e = ap (λ (x : CharOffset). x.0) e ∙ greatest (λ (x : CharOffset). x.0) a b
+
+abbrev position_cmp : Position → Position → Ordering
+position_cmp p q = ordering_then (nat_cmp p.row.0 q.row.0) (nat_cmp p.col.0 q.col.0)
+
+lt_then : (a b c d : ℕ) → is_lt (ordering_then (nat_cmp a b) (nat_cmp c d)) ≡ (ltb a b || (eqb a b && ltb c d))
+lt_then a b c d = go (ltb a b) (eqb a b)
+  where
+    go : (x y : Bool) → is_lt (ordering_then (cond x Less (cond y Equal Greater)) (nat_cmp c d)) ≡ (x || (y && ltb c d))
+    go true y = refl
+    go false true = is_lt-ltb c d
+    go false false = refl
+
+-- the one comes first where the other is not up to it
+lt-upto : (p q : Position) → is_lt (position_cmp q p) ≡ not (upto p q)
+lt-upto p q = lt_then q.row.0 p.row.0 q.col.0 p.col.0 ∙ go (upto p q) refl
+  where
+    go : (t : Bool) → upto p q ≡ t → (ltb q.row.0 p.row.0 || (eqb q.row.0 p.row.0 && ltb q.col.0 p.col.0)) ≡ not t
+    go true e =
+        ⊎_elim
+        (λ l. rw (le-ltb q.row.0 p.row.0 (omega arith), ne_eqb q.row.0 p.row.0 (omega arith)))
+        (λ k. rw (le-ltb q.row.0 p.row.0 (omega arith), eq-eqb q.row.0 p.row.0 (sym k.0), le-ltb q.col.0 p.col.0 k.1)) (upto_is p q e)
+    go false e =
+        say (ltb q.row.0 p.row.0) (eqb q.row.0 p.row.0) (ltb q.col.0 p.col.0) (⊎_elim (λ l. inl (lt-ltb _ _ l)) (λ k. inr (eq-eqb _ _ k.0, lt-ltb _ _ k.1)) (past_is p q e))
+
+pub pos_min : (p q : Position) {r : Position} → r ≡ ord_min position_cmp p q → r ≡ earlier p q
+pos_min p q e = e ∙ rw (lt-upto p q) (go (upto p q))
+  where
+    go : (t : Bool) → cond (not t) q p ≡ cond t p q
+    go true = refl
+    go false = refl
+
+pub pos_max : (p q : Position) {r : Position} → r ≡ ord_max position_cmp p q → r ≡ later p q
+pos_max p q e = e ∙ rw (lt-upto p q) (go (upto p q))
+  where
+    go : (t : Bool) → cond (not t) p q ≡ cond t q p
+    go true = refl
+    go false = refl
+
+is_le-leb : (a b : ℕ) → is_le (nat_cmp a b) ≡ leb a b
+is_le-leb a b = go (leb a b) refl
+  where
+    go : (t : Bool) → leb a b ≡ t → is_le (nat_cmp a b) ≡ t
+    go true e = ⊎_elim (λ k. rw (le-ltb a b (omega arith), eq-eqb a b k)) (λ l. rw (lt-ltb a b l)) (eq-or-lt_of_le {n = a} {m = b} (leb-true _ _ e))
+    go false e = rw (le-ltb a b (omega (arith, leb-false a b e)), ne_eqb a b (omega (arith, leb-false a b e)))
+
+pub pos_le :
+    (p q : Position) {t : Bool}
+    → t ≡ is_some_and is_le (partial_ordering_then (Some (nat_cmp p.row.0 q.row.0)) (Some (nat_cmp p.col.0 q.col.0))) → t ≡ upto p q
+pos_le p q e = e ∙ go (ltb p.row.0 q.row.0) (eqb p.row.0 q.row.0)
+  where
+    go : (x y : Bool) → is_some_and is_le (partial_ordering_then (Some (cond x Less (cond y Equal Greater))) (Some (nat_cmp p.col.0 q.col.0))) ≡ (x || (y && leb p.col.0 q.col.0))
+    go true y = refl
+    go false true = is_le-leb p.col.0 q.col.0
+    go false false = refl

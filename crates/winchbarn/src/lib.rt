@@ -31,8 +31,8 @@ use merge::merge_overlapping;
 use plain::{
     Bounds, Change, Count, Cover, EditLine, Found, Numbers, Said, SelFound, Viewed, found_at,
     found_sel, meant_edit, meant_selection, no_bounds, no_cover, no_sel, not_changed, not_counted,
-    not_found, told_answer, told_bounds, told_clamped, told_count, told_decoded, told_encoded, told_ends,
-    told_fit, told_span,
+    not_found, told_answer, told_bounds, told_clamped, told_count, told_decoded, told_encoded,
+    told_ends, told_fit, told_span,
 };
 use rows::clamp_position;
 use script::run_script;

@@ -2,6 +2,7 @@ use mathlib.Core.Path.{◌∙◌, ap}
 use mathlib.Core.Bool.{true}
 use native.Mathlib.Omega.{arith}
 use lib.ListN.{take}
+use Rattle.text.proofs.Order.{pos_min}
 use Rattle.std.proofs.lemmas.Result.{err_from_is_err_and}
 use Rattle.text.specs.Text.{is_lf}
 use Rattle.edit.specs.Call.{lent}
@@ -28,5 +29,5 @@ close_gap-requires c = let a = c.args in
 
 pub returns : goal.returns
 returns c = let a = c.args in
-    λ x f y of os same. char_done a.view a.text.now a.start a.end c.requires.0 _ c.char_cut-cut.ensures _ _ _ a.out.now _ _ c.min-at.ensures c.close_gap.ensures c.clamp-cursor.ensures c.next_view.ensures x f y of os
+    λ x f y of os same. char_done a.view a.text.now a.start a.end c.requires.0 _ c.char_cut-cut.ensures _ _ _ a.out.now _ _ (pos_min a.start a.end c.min-at.ensures) c.close_gap.ensures c.clamp-cursor.ensures c.next_view.ensures x f y of os
     ∙ worked_leaves true a.room (chars_deleted is_lf (take a.view.used a.text.now) a.start a.end) _ (c.judge_flat.ensures (chars_deleted is_lf (take a.view.used a.text.now) a.start a.end) (char_plan a.view a.text.now a.start a.end c.requires.0 _ c.char_cut-cut.ensures)) a.view (lent a.text.now x f y a.out.now of os) same c.in_ok-judge_flat.was

@@ -2,6 +2,7 @@ use mathlib.Core.Path.{◌∙◌, ap}
 use mathlib.Core.Bool.{true}
 use native.Mathlib.Omega.{arith}
 use lib.ListN.{take}
+use Rattle.text.proofs.Order.{row_min}
 use Rattle.std.proofs.lemmas.Result.{err_from_is_err_and}
 use Rattle.text.specs.Text.{is_lf}
 use Rattle.edit.specs.Call.{lent}
@@ -28,5 +29,5 @@ close_gap-requires c = let a = c.args in
 
 pub returns : goal.returns
 returns c = let a = c.args in
-    λ x f y of os same. line-done a.view a.text.now a.start a.end c.requires.0 _ c.line_cut-rows.ensures _ _ _ a.out.now _ _ c.close_gap.ensures c.last_row.ensures c.min-row.ensures c.next_view.ensures x f y of os
+    λ x f y of os same. line-done a.view a.text.now a.start a.end c.requires.0 _ c.line_cut-rows.ensures _ _ _ a.out.now _ _ c.close_gap.ensures c.last_row.ensures (row_min c.line_cut-rows.result.lo c.last_row.result c.min-row.ensures) c.next_view.ensures x f y of os
     ∙ worked_leaves true a.room (lines_deleted is_lf (take a.view.used a.text.now) a.start a.end) _ (c.judge_flat.ensures (lines_deleted is_lf (take a.view.used a.text.now) a.start a.end) (line-plan a.view a.text.now a.start a.end c.requires.0 _ c.line_cut-rows.ensures)) a.view (lent a.text.now x f y a.out.now of os) same c.in_ok-judge_flat.was

@@ -1,6 +1,7 @@
 use mathlib.Core.Path.{◌∙◌, ap}
 use mathlib.Core.Bool.{true}
 use lib.ListN.{take}
+use Rattle.text.proofs.Order.{pos_min}
 use Rattle.std.proofs.lemmas.Result.{err_from_is_err_and}
 use Rattle.text.specs.Text.{is_lf}
 use Rattle.edit.specs.declared.Plan.{Plan}
@@ -39,5 +40,5 @@ open_gap-requires c = let a = c.args in
 pub returns : goal.returns
 returns c = let a = c.args in
     let q = replace_plan a.view a.text.now a.payload.now a.start a.end c.requires.0 _ c.char_cut-cut.ensures in let g = worked_fits true a.room (replaced is_lf (take a.view.used a.text.now) a.start a.end a.payload.now) _ (c.judge_flat.ensures (replaced is_lf (take a.view.used a.text.now) a.start a.end a.payload.now) q) c.in_ok-judge_flat.was in
-    λ x f y of os same. replace_done a.view a.text.now a.payload.now a.start a.end c.requires.0 _ c.char_cut-cut.ensures _ c.min-from.ensures _ _ _ a.out.now _ c.close_gap.ensures c.locate-place.ensures c.end_after-to.ensures _ _ c.open_gap.ensures (omega (arith, g.buffer, ap (λ (z : Plan). z.used) q, c.requires.3)) c.next_view.ensures x f y of os
+    λ x f y of os same. replace_done a.view a.text.now a.payload.now a.start a.end c.requires.0 _ c.char_cut-cut.ensures _ (pos_min a.start a.end c.min-from.ensures) _ _ _ a.out.now _ c.close_gap.ensures c.locate-place.ensures c.end_after-to.ensures _ _ c.open_gap.ensures (omega (arith, g.buffer, ap (λ (z : Plan). z.used) q, c.requires.3)) c.next_view.ensures x f y of os
     ∙ worked_leaves true a.room (replaced is_lf (take a.view.used a.text.now) a.start a.end a.payload.now) _ (c.judge_flat.ensures (replaced is_lf (take a.view.used a.text.now) a.start a.end a.payload.now) q) a.view (lent a.text.now x f y a.out.now of os) same c.in_ok-judge_flat.was

@@ -1,5 +1,6 @@
 use lib.ListN.{length}
-use Prim.Native.Nat.{◌≤◌}
+use Prim.Native.Nat.{◌≤◌, ◌-◌}
+use Rattle.text.proofs.Order.{col_min}
 use Rattle.text.proofs.Walks.{span-within, placed}
 use native.Mathlib.Omega.{arith}
 use Rattle.rows.proofs.locate.Goals.{After-struct_known-1}
@@ -16,4 +17,4 @@ overflow_cast-found c = omega (arith, (found (goal.at.overflow_cast-found c).Aft
 
 pub returns : goal.returns
 returns c = let f = c.find_row-found in
-    placed c.args.text.now c.args.pos f.result _ f.ensures c.min-col.ensures
+    placed c.args.text.now c.args.pos f.result _ f.ensures (col_min c.args.pos.col (record { 0 = f.result.end.0 - f.result.start.0 }) c.min-col.ensures)

@@ -1,10 +1,11 @@
-use borrow.Author.Tests.{not-true, not-false}
+use Rattle.std.proofs.lemmas.Result.{err_from_is_err_and}
 use Rattle.feed.specs.Scripts.{output}
 use Rattle.script.proofs.Twice.{ran-not, ran-whole}
 use Rattle.script.proofs.run_script.Goals as goal
 
-pub returns-then-not-counted : goal.returns-then-not-counted
-returns-then-not-counted c = let a = c.args in let r = c.run_over-counted in ran-not (output a.input.now) a.out.now r.result _ r.ensures (not-true _ c.if-not-counted.true)
+pub returns-in_err-run_over : goal.returns-in_err-run_over
+returns-in_err-run_over c = let a = c.args in let r = c.run_over in let p = err_from_is_err_and c.from_residual.result c.from_residual.ensures.1 in
+    rw p.1 (ran-not (output a.input.now) a.out.now r.result _ r.ensures _ c.in_err-run_over.was)
 
 pub returns : goal.returns
-returns c = let a = c.args in let r = c.run_over-counted in let q = c.run_over-kept in ran-whole (output a.input.now) a.out.now r.result _ r.ensures (not-false _ c.if-not-counted.false) q.result _ q.ensures
+returns c = let a = c.args in let r = c.run_over in let q = c.run_over-2 in ran-whole (output a.input.now) a.out.now r.result _ r.ensures _ c.in_ok-run_over.was q.result _ q.ensures

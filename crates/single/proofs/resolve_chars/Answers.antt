@@ -1,3 +1,4 @@
+use Rattle.text.proofs.Order.{pos_min}
 use Rattle.single.proofs.Resolving.{chars_within, chars_resolve}
 use native.Mathlib.Omega.{arith}
 use Rattle.single.proofs.resolve_chars.Goals as goal
@@ -8,4 +9,4 @@ resolve_cut-requires c = let a = c.args in
 
 pub returns : goal.returns
 returns c = let a = c.args in
-    λ x f s'. chars_resolve a.text.now x f s' a.steps.now a.start a.end _ _ _ _ c.min-at.ensures c.char_cut-cut.ensures c.resolve_cut.ensures.stored c.resolve_cut.ensures.value
+    λ x f s'. chars_resolve a.text.now x f s' a.steps.now a.start a.end _ _ _ _ (pos_min a.start a.end c.min-at.ensures) c.char_cut-cut.ensures c.resolve_cut.ensures.stored c.resolve_cut.ensures.value

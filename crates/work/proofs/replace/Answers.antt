@@ -1,3 +1,4 @@
+use Rattle.text.proofs.Order.{pos_min}
 use Rattle.std.proofs.lemmas.Result.{err_from_is_err_and}
 use Rattle.work.proofs.Replacing.{cut_passed, cut_passed-lent, cut_small, replace_fits, replace_refused, replace_done, put-start, put-end}
 use Rattle.work.proofs.Working.{front_long, sums_used, sums_cut}
@@ -32,4 +33,4 @@ insert_at-put-requires c = let a = c.args in
 
 pub returns : goal.returns
 returns c = let a = c.args in
-    let e = c.sum_steps-sums.ensures in let el = sums_used _ _ _ _ _ _ e _ (front_long a.text.now a.view.used c.requires.0) in let eg = sums_cut _ _ _ _ _ _ e in λ l e₁ e₂ e₃. replace_done a.view a.text.now a.payload.now a.start a.end c.requires.0 _ _ (c.resolve_chars-cut.ensures a.payload.now [] []) _ _ el eg a.room _ c.judge.ensures _ a.outpayload.now _ c.commit.ensures (c.record_cut.ensures a.payload.now) _ c.min.ensures _ c.insert_at-put.ensures.text c.in_ok-judge.was c.requires.3 c.requires.4 _ _ (put-start _ _ _ c.insert_at-put.ensures.value) (put-end _ _ _ c.insert_at-put.ensures.value) _ c.done.ensures l e₁ e₂ e₃
+    let e = c.sum_steps-sums.ensures in let el = sums_used _ _ _ _ _ _ e _ (front_long a.text.now a.view.used c.requires.0) in let eg = sums_cut _ _ _ _ _ _ e in λ l e₁ e₂ e₃. replace_done a.view a.text.now a.payload.now a.start a.end c.requires.0 _ _ (c.resolve_chars-cut.ensures a.payload.now [] []) _ _ el eg a.room _ c.judge.ensures _ a.outpayload.now _ c.commit.ensures (c.record_cut.ensures a.payload.now) _ (pos_min a.start a.end c.min.ensures) _ c.insert_at-put.ensures.text c.in_ok-judge.was c.requires.3 c.requires.4 _ _ (put-start _ _ _ c.insert_at-put.ensures.value) (put-end _ _ _ c.insert_at-put.ensures.value) _ c.done.ensures l e₁ e₂ e₃

@@ -1,3 +1,4 @@
+use Rattle.text.proofs.Order.{pos_min, pos_max}
 use Rattle.marking.specs.InOrder.{in_order}
 use Rattle.marking.proofs.ends.in_order.Goals as goal
 
@@ -22,7 +23,7 @@ returns-in-SplitLines c = rw c.in-SplitLines.is
 
 pub returns-in-Replace : goal.returns-in-Replace
 unfolding in_order
-returns-in-Replace c = rw (c.in-Replace.is, c.max.ensures, c.min.ensures)
+returns-in-Replace c = rw (c.in-Replace.is, pos_max c.in-Replace.start c.in-Replace.end c.max.ensures, pos_min c.in-Replace.start c.in-Replace.end c.min.ensures)
 
 pub returns-in-InsertBlock : goal.returns-in-InsertBlock
 unfolding in_order

@@ -1,3 +1,4 @@
+use Rattle.text.proofs.Order.{pos_min}
 use Rattle.edit.specs.Call.{is_undoable}
 use Rattle.view.proofs.undo.is_undoable.Goals as goal
 
@@ -23,7 +24,7 @@ returns-in-SplitLines c = rw c.in-SplitLines.is
 
 pub returns-in-Replace : goal.returns-in-Replace
 unfolding is_undoable
-returns-in-Replace c = rw (c.in-Replace.is, c.contains.ensures, c.min.ensures)
+returns-in-Replace c = rw (c.in-Replace.is, c.contains.ensures, pos_min c.in-Replace.start c.in-Replace.end c.min.ensures)
 
 pub returns-in-InsertBlock : goal.returns-in-InsertBlock
 unfolding is_undoable

@@ -1,9 +1,10 @@
+use Rattle.text.proofs.Order.{pos_min}
 use Rattle.edit.specs.Call.{range_undoable}
 use Rattle.view.proofs.undo.range_undoable.Goals as goal
 
 pub returns-in-Char : goal.returns-in-Char
 unfolding range_undoable
-returns-in-Char c = rw (c.in-Char.is, c.contains.ensures, c.min.ensures)
+returns-in-Char c = rw (c.in-Char.is, c.contains.ensures, pos_min c.args.start c.args.end c.min.ensures)
 
 pub returns-in-Line : goal.returns-in-Line
 unfolding range_undoable
