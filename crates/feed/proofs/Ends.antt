@@ -12,7 +12,9 @@ use Rattle.promise.specs.Slices.{over}
 use Rattle.promise.proofs.Lists.{tail_whole, paste-behind, part-pasted}
 use Rattle.text.specs.Rows.{row_len}
 use Rattle.text.specs.Text.{is_lf}
-use Rattle.marking.proofs.FlatMarks.{marks_over}
+use Rattle.std.specs.Prelude.{Option}
+use Rattle.select.specs.declared.Sel.{Sel}
+use Rattle.marking.proofs.Slots.{marks_in-over}
 use Rattle.loading.specs.declared.Script.{Script}
 use Rattle.loading.specs.declared.Progress.{Progress}
 use Rattle.loading.specs.States.{State, state_of, script_of}
@@ -38,7 +40,7 @@ part_length b a = ap length (tail_whole b a) ∙ length-drop a b
 
 -- ---- a line that ends
 
-module _ (c : Script) (l t m o : List ℕ) (ready : Ready c t m) (r : Progress) (t' m' o' : List ℕ) (e : stepping.left r t' m' o' ≡ step_leaves c l t m o) where
+module _ (c : Script) (l t : List ℕ) (m : List (Option Sel)) (o : List ℕ) (ready : Ready c t m) (r : Progress) (t' : List ℕ) (m' : List (Option Sel)) (o' : List ℕ) (e : stepping.left r t' m' o' ≡ step_leaves c l t m o) where
   abbrev x : Stepped
   x = step (state_of c t m) l
 
@@ -47,7 +49,7 @@ module _ (c : Script) (l t m o : List ℕ) (ready : Ready c t m) (r : Progress) 
       let s : r.script ≡ script_of x.state = ap (λ (q : stepping.Left). q.script) e in
       let b : t' ≡ x.state.buffer = ap (λ (q : stepping.Left). q.text) e in
       let k = ap (λ (q : stepping.Left). q.marks) e in
-      rw (s, b, k, marks_over x.state.place.marks x.state.marks m (marks_counted c t m l ready))
+      rw (s, b, k, marks_in-over x.state.marks m x.state.place.marks (marks_counted c t m l ready))
 
   line-left : (v : List ℕ) (k : ℕ) → left (course r.script 0 k r.printed) v t' m' o' ≡ leaves (fed x.state [] x.printed) o
   line-left v k =
@@ -64,7 +66,7 @@ module _ (c : Script) (l t m o : List ℕ) (ready : Ready c t m) (r : Progress) 
         ∙ ap (λ (y : Fed). leaves y o) (sym (ap (λ (k : ℕ). fed_by (state_of c t m) p (take k xs)) (add-one n) ∙ fed-line (state_of c t m) p xs n hp (sym hn) h))
 
 -- all of it in this piece
-pub whole-left : (c : Script) (xs t m o : List ℕ) → Ready c t m → (r : Progress) (t' m' o' : List ℕ) (n : ℕ)
+pub whole-left : (c : Script) (xs t : List ℕ) (m : List (Option Sel)) (o : List ℕ) → Ready c t m → (r : Progress) (t' : List ℕ) (m' : List (Option Sel)) (o' : List ℕ) (n : ℕ)
     → stepping.left r t' m' o' ≡ step_leaves c (take (n - 0) (drop 0 xs)) t m o
     → n ≡ row_len is_lf xs 0 → n < length xs → (p : ℕ) → p ≡ 0 → (v v' : List ℕ)
     → left (course r.script 0 (n + 1) r.printed) v' t' m' o' ≡ feed_leaves c (take p v) (take (n + 1) xs) t m o
@@ -74,7 +76,7 @@ whole-left c xs t m o y r t' m' o' n e hn h p z v v' =
     ∙ ap (λ (k : ℕ). feed_leaves c (take k v) (take (n + 1) xs) t m o) (sym z)
 
 -- its beginning in pieces before
-pub pieced_left : (c : Script) (xs t m o : List ℕ) → Ready c t m → (r : Progress) (t' m' o' : List ℕ) (n p k : ℕ) (v v' : List ℕ)
+pub pieced_left : (c : Script) (xs t : List ℕ) (m : List (Option Sel)) (o : List ℕ) → Ready c t m → (r : Progress) (t' : List ℕ) (m' : List (Option Sel)) (o' : List ℕ) (n p k : ℕ) (v v' : List ℕ)
     → stepping.left r t' m' o' ≡ step_leaves c (take (k - 0) (drop 0 v')) t m o
     → n ≡ row_len is_lf xs 0 → n < length xs → p ≤ held_limit → take k v' ≡ held (take p v ++ take (n - 0) (drop 0 xs))
     → left (course r.script 0 (n + 1) r.printed) v' t' m' o' ≡ feed_leaves c (take p v) (take (n + 1) xs) t m o
@@ -84,7 +86,7 @@ pieced_left c xs t m o y r t' m' o' n p k v v' e hn h hp q =
 
 -- ---- a part without LF
 
-pub held-left : (c : Script) (xs t m o : List ℕ) (n p k : ℕ) (v v' : List ℕ) → n ≡ row_len is_lf xs 0 → length xs ≤ n → n ≤ length xs → p ≤ held_limit → take k v' ≡ held (take p v ++ xs)
+pub held-left : (c : Script) (xs t : List ℕ) (m : List (Option Sel)) (o : List ℕ) (n p k : ℕ) (v v' : List ℕ) → n ≡ row_len is_lf xs 0 → length xs ≤ n → n ≤ length xs → p ≤ held_limit → take k v' ≡ held (take p v ++ xs)
     → left (course c k n 0) v' t m o ≡ feed_leaves c (take p v) (take n xs) t m o
 held-left c xs t m o n p k v v' hn h g hp q =
     ap (λ (y : List ℕ). record { state = state_of c t m; pending = y; printed = 0; out = o }) q
@@ -105,12 +107,13 @@ same : {a a' : State} {p p' : List ℕ} {n n' : ℕ} {o o' : List ℕ} → a ≡
     → ◌≡◌ {A = Left} (record { state = a; pending = p; printed = n; out = o }) (record { state = a'; pending = p'; printed = n'; out = o' })
 same a p n o = rw (a, p, n, o)
 
-pub fed-none : (c : Script) (p : ℕ) (l xs t m o : List ℕ) → left (course c p 0 0) l t m o ≡ feed_leaves c (take p l) (take 0 xs) t m o
+pub fed-none : (c : Script) (p : ℕ) (l xs t : List ℕ) (m : List (Option Sel)) (o : List ℕ) → left (course c p 0 0) l t m o ≡ feed_leaves c (take p l) (take 0 xs) t m o
 unfolding fed_by
 fed-none c p l xs t m o = refl
 
 -- n bytes of a piece have been fed, and w printed; then r of what is left
-module _ (c₀ : Script) (p₀ t₀ m₀ o₀ piece : List ℕ) (c : Script) (k n w : ℕ) (l t m o : List ℕ) (r : Course) (l' t' m' y : List ℕ)
+module _ (c₀ : Script) (p₀ t₀ : List ℕ) (m₀ : List (Option Sel)) (o₀ piece : List ℕ) (c : Script) (k n w : ℕ) (l t : List ℕ) (m : List (Option Sel)) (o : List ℕ) (r : Course)
+    (l' t' : List ℕ) (m' : List (Option Sel)) (y : List ℕ)
     (e : left (course c k n w) l t m o ≡ feed_leaves c₀ p₀ (take n piece) t₀ m₀ o₀)
     (q : left r l' t' m' y ≡ feed_leaves c (take k l) (take r.taken (take (length piece - n) (drop n piece))) t m (take (length o - w) (drop w o))) where
   abbrev ys : List ℕ
@@ -146,7 +149,7 @@ unfolding fed_by
 none_printed s p = refl
 
 -- a call that has room for a line takes some of what there is
-pub some_taken : (c : Script) (p xs t m o : List ℕ) (r : Course) (l' t' m' o' : List ℕ) → left r l' t' m' o' ≡ feed_leaves c p (take r.taken xs) t m o
+pub some_taken : (c : Script) (p xs t : List ℕ) (m : List (Option Sel)) (o : List ℕ) (r : Course) (l' t' : List ℕ) (m' : List (Option Sel)) (o' : List ℕ) → left r l' t' m' o' ≡ feed_leaves c p (take r.taken xs) t m o
     → (r.taken < length xs → length o < r.printed + 36_867) → 36_867 ≤ length o → 0 < length xs → 0 < r.taken
 some_taken c p xs t m o r l' t' m' o' e f h k = elim (dec_le r.taken 0) [ yes z ↦ absurd (omega (arith, f (omega arith), none r.taken (omega arith) (ap (λ (z : Left). z.printed) e))) | no z ↦ omega arith ]
   where

@@ -1,11 +1,11 @@
 -- What a script has between two lines.
-use Rattle.std.specs.Prelude.{List, [], false, ℕ, take, replicate}
+use Rattle.std.specs.Prelude.{List, [], false, ℕ, Option, take, replicate}
 use Rattle.text.specs.Rows.{at}
 use Rattle.edit.specs.declared.View.{View}
 use Rattle.select.specs.declared.Sel.{Sel}
 use Rattle.shift.specs.Answers.{Followed}
 use Rattle.place.specs.declared.Place.{Place}
-use Rattle.marking.specs.FlatMarks.{marks_in}
+use Rattle.marking.specs.Slots.{marks_in}
 use Rattle.loading.specs.declared.Script.{Script}
 
 -- the view and the buffer of its text, what has been seen, and the marks in the order read
@@ -29,7 +29,7 @@ abbrev pub opening : State
 opening = state (record { used = 0; cursor = at 0 0; changes = 0 }) (replicate buffer_limit 0) (record { sound = false; marks = 0; edited = false }) []
 
 -- the state that a script's record and its two slices hold
-abbrev pub state_of : Script → List ℕ → List ℕ → State
+abbrev pub state_of : Script → List ℕ → List (Option Sel) → State
 state_of c text marks = state c.view text c.place (marks_in c.place.marks marks)
 
 abbrev pub script_of : State → Script

@@ -1,20 +1,14 @@
 // Mark frames.
-ghost use Rattle.std.specs.Prelude.{◌≡◌, ◌-◌, ◌*◌, ◌≤◌, ◌<◌, length};
-ghost use Rattle.std.proofs.Math.Seq.{paste};
-ghost use Rattle.shift.specs.Answers.{to};
-ghost use Rattle.marking.specs.FlatMarks.{flat_mark};
+ghost use Rattle.std.specs.Prelude.{Some, ◌≡◌, ◌-◌, ◌≤◌, ◌<◌, length, slice_set};
 
 use crate::{Progress, Script};
-use marking::put_mark;
 use select::Sel;
 
 // A mark that the script has counted already.
-pub fn keep_mark(script: Script, sel: Sel, marks: &mut [u32]) -> Progress
-    requires { (0 < script.place.marks) × (script.place.marks ≤ 64) × (length marks.old ≡ 320) }
-    ensures { (result.script ≡ script) × (result.printed ≡ 0) × (marks.new ≡ paste marks.old ((script.place.marks - 1) * 5) (flat_mark (to sel)) 5) }
+pub fn keep_mark(script: Script, sel: Sel, marks: &mut [Option<Sel>]) -> Progress
+    requires { (0 < script.place.marks) × (script.place.marks ≤ 64) × (length marks.old ≡ 64) }
+    ensures { (result.script ≡ script) × (result.printed ≡ 0) × (marks.new ≡ slice_set marks.old (script.place.marks - 1) (Some sel)) }
 {
-    let place = script.place;
-    let at = (place.marks - 1) * 5;
-    put_mark(&mut marks[at..at + 5], sel);
+    marks[script.place.marks - 1] = Some(sel);
     Progress { script, printed: 0 }
 }

@@ -6,7 +6,7 @@ use Rattle.frame.specs.Format.{chunk_bytes, column_bytes, edit_bytes, frame_byte
 use Rattle.hexline.specs.Digits.{digit_of, hexed}
 use Rattle.joins.specs.Turns.{gap_len}
 use Rattle.marking.specs.Carries.{carried_mark}
-use Rattle.marking.specs.FlatMarks.{flat_mark, flat_marks, mark_in, marks_in}
+use Rattle.marking.specs.Slots.{slot_of}
 use Rattle.marking.specs.MarkLines.{mark_line}
 use Rattle.shift.specs.Call.{carried_over}
 use Rattle.shift.specs.Kinds.{after_delete, shifted}
@@ -16,5 +16,5 @@ use Rattle.utf8.specs.Rfc3629.{octets}
 use Rattle.marking.specs.Examples.{RuledOut}
 
 pub ruled_out : RuledOut
-unfolding after_delete_block after_delete_block_chunks after_delete_char after_delete_lines after_insert after_insert_block after_join start_cols pieces chunk_bytes column_bytes edit_bytes frame_bytes width_bytes digit_of hexed gap_len carried_mark flat_mark flat_marks mark_in marks_in mark_line carried_over after_delete shifted last_row lines onto row_count row_len writing octets
+unfolding after_delete_block after_delete_block_chunks after_delete_char after_delete_lines after_insert after_insert_block after_join start_cols pieces chunk_bytes column_bytes edit_bytes frame_bytes width_bytes digit_of hexed gap_len carried_mark slot_of mark_line carried_over after_delete shifted last_row lines onto row_count row_len writing octets
 ruled_out = record { ends = refl; second = refl; drops = refl; lost = refl }

@@ -1,5 +1,5 @@
 pub mod Orders
-pub mod FlatMarks
+pub mod Slots
 pub mod Carrying
 pub mod MarkLines
 pub mod Examples

@@ -1,4 +1,4 @@
-pub mod FlatMarks
+pub mod Slots
 pub mod Carries
 pub mod InOrder
 pub mod MarkLines

@@ -7,6 +7,7 @@ use lib.ListN.{length, take, drop, take-append-drop, drop_of_length-le}
 use lib.Seq.{drop-drop, length-take-le}
 use Rattle.promise.specs.Slices.{over}
 use Rattle.promise.proofs.Lists.{tail_whole}
+use Rattle.select.specs.declared.Sel.{Sel}
 use Rattle.loading.specs.declared.Script.{Script}
 use Rattle.loading.specs.States.{State, state_of}
 use Rattle.feed.specs.declared.Course.{Course}
@@ -14,7 +15,7 @@ use Rattle.feed.specs.Feeds.{Fed, fed_by, closing, whole}
 use Rattle.feed.specs.Calls.{Left, left, leaves, feed_leaves}
 use Rattle.feed.proofs.Ends.{printed-part}
 use Rattle.feed.proofs.Wholes.{whole-none, whole-more}
-use Rattle.std.specs.Prelude.{Result, Ok}
+use Rattle.std.specs.Prelude.{Option, Result, Ok}
 use Rattle.utf8.specs.declared.NoRoom.{NoRoom}
 use Rattle.script.specs.declared.feeding.FedOver.{FedOver}
 use Rattle.script.specs.Courses.{Going, Goes, GoesFed}
@@ -30,7 +31,7 @@ from_on s p w n k =
 
 module _ (keep : Bool) (w b : List ℕ) where
   -- a call of the feeder with the bytes from n on, and what it printed behind the first j
-  module _ (c : Script) (k n j : ℕ) (l t m o input a a' : List ℕ) (r : Course) (l' t' m' o' : List ℕ) (q : Result ℕ NoRoom)
+  module _ (c : Script) (k n j : ℕ) (l t : List ℕ) (m : List (Option Sel)) (o input a a' : List ℕ) (r : Course) (l' t' : List ℕ) (m' : List (Option Sel)) (o' : List ℕ) (q : Result ℕ NoRoom)
       (e : left r l' t' m' o' ≡ feed_leaves c (take k l) (take r.taken (take (length input - n) (drop n input))) t m o) where
     abbrev x : Fed
     x = fed_by (state_of c t m) (take k l) (take r.taken (drop n input))
@@ -53,7 +54,7 @@ module _ (keep : Bool) (w b : List ℕ) where
     fed-goes f g = f w b still (comes_as keep w b j (whole (fed_by (state_of c t m) (take k l) (drop n input))) (take (r.printed - 0) (drop 0 o') ++ still) a comes g)
 
   -- all bytes are fed
-  pub fed-over : (c : Script) (k n j : ℕ) (l t m input a : List ℕ) → length input ≤ n → k ≤ length l
+  pub fed-over : (c : Script) (k n j : ℕ) (l t : List ℕ) (m : List (Option Sel)) (input a : List ℕ) → length input ≤ n → k ≤ length l
       → Going keep w b j (whole (fed_by (state_of c t m) (take k l) (drop n input))) a → GoesFed keep w b (Ok (record { script = c; pending = k; printed = j })) (λ (f : FedOver). closing (state_of f.script t m) f.pending) a
   fed-over c k n j l t m input a h i g =
       let s : State = state_of c t m in

@@ -14,7 +14,7 @@ use Rattle.loading.specs.declared.Script.{Script}
 use Rattle.loading.specs.States.{opening, script_of, state_of}
 use Rattle.step.specs.Calls.{Ready}
 use Rattle.step.proofs.Readies.{opening-state, ready_opening}
-use Rattle.std.specs.Prelude.{Result, Ok, Err}
+use Rattle.std.specs.Prelude.{None, Result, Ok, Err}
 use Rattle.utf8.specs.declared.NoRoom.{NoRoom}
 use Rattle.script.specs.declared.feeding.FedOver.{FedOver}
 use Rattle.feed.specs.Scripts.{output}
@@ -26,11 +26,11 @@ use Rattle.script.specs.Calls.{paper_ran}
 -- ---- the opening
 
 module _ (c : Script) (e : c ≡ script_of opening) where
-  pub opens-ready : Ready c (replicate 4_096 0) (replicate 320 0)
+  pub opens-ready : Ready c (replicate 4_096 0) (replicate 64 None)
   opens-ready = rw e ready_opening
 
   pub opens-run : (keep : Bool) (w b : List ℕ) (r : Result FedOver NoRoom) (still : FedOver → List ℕ) (a : List ℕ)
-      → GoesFed keep (whole (fed_by (state_of c (replicate 4_096 0) (replicate 320 0)) [] w)) b r still a → GoesFed keep (output w) b r still a
+      → GoesFed keep (whole (fed_by (state_of c (replicate 4_096 0) (replicate 64 None)) [] w)) b r still a → GoesFed keep (output w) b r still a
   opens-run keep w b r still a g = rw (e, opening-state, whole-output) at g
 
 -- ---- both runs

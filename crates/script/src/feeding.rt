@@ -8,6 +8,7 @@ ghost use Rattle.script.specs.Courses.{GoesFed};
 use crate::emitting::add_part;
 use feed::feed;
 use loading::Script;
+use select::Sel;
 use utf8::NoRoom;
 
 // The script after some bytes, how many of a line are held, and how much they printed.
@@ -24,7 +25,7 @@ pub fn feed_all(
     input: &[u8],
     line: &mut [u8],
     text: &mut [u32],
-    marks: &mut [u32],
+    marks: &mut [Option<Sel>],
     room: &mut [u8],
     out: &mut [u8],
     keep: bool,

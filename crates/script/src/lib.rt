@@ -21,7 +21,7 @@ fn run_over(input: &[u8], out: &mut [u8], keep: bool) -> Result<usize, NoRoom>
     ensures { Goes keep (output input.now) out.old result [] out.new }
 {
     let mut text = [0u32; TEXT_ROOM];
-    let mut marks = [0u32; MARK_ROOM];
+    let mut marks = [None; MARK_ROOM];
     let mut line = [0u8; HELD_ROOM];
     let mut room = [0u8; CLOSING_ROOM];
     let fed = feed_all(

@@ -5,8 +5,10 @@ use Prim.Native.Nat.{ℕ, ◌+◌, ◌-◌, ◌≤◌}
 use native.Mathlib.Nat.{sub-zero}
 use lib.ListN.{length, take, drop}
 use lib.Seq.{take-add, take_all, length-take-le}
+use Rattle.std.specs.Prelude.{Option}
 use Rattle.promise.specs.Slices.{over}
 use Rattle.promise.proofs.Lists.{tail_whole}
+use Rattle.select.specs.declared.Sel.{Sel}
 use Rattle.loading.specs.declared.Script.{Script}
 use Rattle.loading.specs.States.{State, state_of, script_of, opening}
 use Rattle.step.specs.Calls.{Ready}
@@ -17,7 +19,7 @@ use Rattle.feed.proofs.Feeds.{fed-append}
 use Rattle.feed.proofs.Ends.{printed-part}
 use Rattle.scriptrun.specs.Runs.{Stands, Come, Prints, more, last}
 
-pub ready_as : (c c' : Script) (t m : List ℕ) → c' ≡ c → Ready c t m → Ready c' t m
+pub ready_as : (c c' : Script) (t : List ℕ) (m : List (Option Sel)) → c' ≡ c → Ready c t m → Ready c' t m
 ready_as c c' t m e h = rw e h
 
 pub stands_none : (s : State) (p bs : List ℕ) → Stands s p (fed_by s p (take 0 bs))
@@ -43,7 +45,7 @@ module _ (s₀ : State) (p₀ bs : List ℕ) where
   stands_all n s p h q = rw (take_all n bs h) at q
 
 -- nothing came: n bytes of a piece are none
-pub stands_still : (c c' : Script) (k k' n : ℕ) (l t m bs : List ℕ) → c' ≡ c → k' ≡ k → n ≡ 0 → Stands (state_of c' t m) (take k' l) (fed_by (state_of c t m) (take k l) (take n bs))
+pub stands_still : (c c' : Script) (k k' n : ℕ) (l t : List ℕ) (m : List (Option Sel)) (bs : List ℕ) → c' ≡ c → k' ≡ k → n ≡ 0 → Stands (state_of c' t m) (take k' l) (fed_by (state_of c t m) (take k l) (take n bs))
 stands_still c c' k k' n l t m bs e q z = rw (e, q, z) (stands_none (state_of c t m) (take k l) bs)
 
 -- the first n bytes, as they are lent
@@ -52,20 +54,20 @@ stands_front s₀ s p₀ p bs n k e q = rw (sub-zero, e) at q
 
 -- ---- since the opening
 
-pub come_first : (c : Script) (t m : List ℕ) → c ≡ script_of opening → state_of (script_of opening) t m ≡ opening → Come (state_of c t m) []
+pub come_first : (c : Script) (t : List ℕ) (m : List (Option Sel)) → c ≡ script_of opening → state_of (script_of opening) t m ≡ opening → Come (state_of c t m) []
 unfolding fed_by
 come_first c t m e q = record { bytes = []; stands = (ap (λ (x : Script). state_of x t m) e ∙ q, refl) }
 
 pub come_on : (s s' : State) (p p' bs : List ℕ) → Come s p → Stands s' p' (fed_by s p bs) → Come s' p'
 come_on s s' p p' bs g q = record { bytes = g.bytes ++ bs; stands = stands_on opening s s' [] p p' g.bytes bs g.stands q }
 
-pub come_still : (c c' : Script) (k k' : ℕ) (l t m : List ℕ) → c' ≡ c → k' ≡ k → Come (state_of c t m) (take k l) → Come (state_of c' t m) (take k' l)
+pub come_still : (c c' : Script) (k k' : ℕ) (l t : List ℕ) (m : List (Option Sel)) → c' ≡ c → k' ≡ k → Come (state_of c t m) (take k l) → Come (state_of c' t m) (take k' l)
 come_still c c' k k' l t m e q h = rw (e, q) h
 
 -- ---- what is written
 
 -- what a call of the feeder printed to the front of o
-pub prints_fed : (c : Script) (p xs t m o : List ℕ) (r : Course) (l' t' m' o' : List ℕ) → left r l' t' m' o' ≡ feed_leaves c p (take r.taken xs) t m o
+pub prints_fed : (c : Script) (p xs t : List ℕ) (m : List (Option Sel)) (o : List ℕ) (r : Course) (l' t' : List ℕ) (m' : List (Option Sel)) (o' : List ℕ) → left r l' t' m' o' ≡ feed_leaves c p (take r.taken xs) t m o
     → Come (state_of c t m) p → Prints (take (r.printed - 0) (drop 0 o'))
 prints_fed c p xs t m o r l' t' m' o' e g =
     let x = fed_by (state_of c t m) p (take r.taken xs) in

@@ -14,6 +14,7 @@ ghost use Rattle.scriptrun.specs.Runs.{Come, Stands, brought};
 use crate::streams::{Streams, fail, is_to_try_again, print};
 use feed::{HELD_ROOM, close, feed};
 use loading::Script;
+use select::Sel;
 use std::io;
 use std::io::{ErrorKind, Read};
 use step::{MARK_ROOM, TEXT_ROOM, opening};
@@ -38,7 +39,7 @@ fn take_bytes(
     bytes: &[u8],
     line: &mut [u8],
     text: &mut [u32],
-    marks: &mut [u32],
+    marks: &mut [Option<Sel>],
     out: &mut [u8],
 ) -> Stand
     requires ready { Ready stand.script text.old marks.old × (stand.pending ≤ 36_865) × (36_865 ≤ length line.old) × (36_867 ≤ length out.old) }
@@ -114,7 +115,7 @@ fn take_read(
     input: &[u8],
     line: &mut [u8],
     text: &mut [u32],
-    marks: &mut [u32],
+    marks: &mut [Option<Sel>],
     out: &mut [u8],
 ) -> Stand
     requires ready { Ready stand.script text.old marks.old × (stand.pending ≤ 36_865) × (36_865 ≤ length line.old) × (36_867 ≤ length out.old) }
@@ -136,7 +137,7 @@ fn read_some(
     input: &mut [u8],
     line: &mut [u8],
     text: &mut [u32],
-    marks: &mut [u32],
+    marks: &mut [Option<Sel>],
     out: &mut [u8],
 ) -> Stand
     requires ready { Ready stand.script text.old marks.old × (stand.pending ≤ 36_865) × (36_865 ≤ length line.old) × (36_867 ≤ length out.old) }
@@ -156,7 +157,7 @@ fn read_all(
     input: &mut [u8],
     line: &mut [u8],
     text: &mut [u32],
-    marks: &mut [u32],
+    marks: &mut [Option<Sel>],
     out: &mut [u8],
 ) -> Stand
     requires ready { Ready stand.script text.old marks.old × (stand.pending ≤ 36_865) × (36_865 ≤ length line.old) × (36_867 ≤ length out.old) }
@@ -176,7 +177,7 @@ fn read_all(
 }
 
 // What is printed at the end of the input.
-fn end(stand: Stand, text: &[u32], marks: &[u32], out: &mut [u8]) -> usize
+fn end(stand: Stand, text: &[u32], marks: &[Option<Sel>], out: &mut [u8]) -> usize
     requires { Ready stand.script text.now marks.now × (39_110 ≤ length out.old) }
     ensures { (out.new ≡ over (closing (state_of stand.script text.now marks.now) stand.pending) out.old) × (result ≡ length (closing (state_of stand.script text.now marks.now) stand.pending)) × (result ≤ 39_110) }
 {
@@ -191,7 +192,7 @@ fn run(
     input: &mut [u8],
     line: &mut [u8],
     text: &mut [u32],
-    marks: &mut [u32],
+    marks: &mut [Option<Sel>],
     out: &mut [u8],
 )
     requires { Ready (script_of start) text.old marks.old × (state_of (script_of start) text.old marks.old ≡ start) × (36_865 ≤ length line.old) × (39_110 ≤ length out.old) }
@@ -216,7 +217,7 @@ fn main(rt: HostRuntime) {
     let mut input = [0u8; INPUT_ROOM];
     let mut line = [0u8; HELD_ROOM];
     let mut text = [0u32; TEXT_ROOM];
-    let mut marks = [0u32; MARK_ROOM];
+    let mut marks = [None; MARK_ROOM];
     let mut out = [0u8; 131_072];
     run(
         streams, &mut input, &mut line, &mut text, &mut marks, &mut out,

@@ -2,7 +2,7 @@
 use mathlib.Core.Path.{◌≡◌, refl, sym, ap, ◌∙◌, subst}
 use mathlib.Core.Bool.{true}
 use mathlib.Core.List.{List, [], ◌∷◌, ◌++◌, map}
-use Prim.Native.Nat.{ℕ, ◌+◌, ◌-◌, ◌*◌, ◌≤◌}
+use Prim.Native.Nat.{ℕ, ◌+◌, ◌-◌, ◌≤◌}
 use native.Mathlib.Omega.{arith}
 use lib.ListN.{length, take, drop, replicate, length-append, length-drop, length-take, length-map, length-replicate, replicate-append-replicate}
 use lib.Seq.{take_at, take-append-le}
@@ -29,10 +29,11 @@ use Rattle.frame.specs.Inverses.{HasLine}
 use Rattle.reader.proofs.EditLines.{Held}
 use Rattle.printing.specs.Prints.{printed_as}
 use Rattle.printing.proofs.Printed.{printed-length}
-use Rattle.marking.specs.FlatMarks.{flat_marks, marks_in}
+use Rattle.select.specs.declared.Sel.{Sel}
+use Rattle.marking.specs.Slots.{marks_in, marks_over}
 use Rattle.marking.specs.Carries.{carried_mark}
 use Rattle.marking.specs.InOrder.{in_order}
-use Rattle.marking.proofs.FlatMarks.{length-marks, count_marks}
+use Rattle.marking.proofs.Slots.{count_marks, marks_stay, over_length}
 use Rattle.marking.proofs.Orders.{in_order_lem}
 use Rattle.loading.specs.declared.Script.{Script}
 use Rattle.loading.specs.declared.Progress.{Progress}
@@ -42,7 +43,7 @@ use Rattle.step.specs.Steps.{lent_to, carried, answered, ran, edited, framed}
 use Rattle.step.specs.Calls.{Ready, Left, left, leaves, carried_in, inverse_in}
 use Rattle.step.proofs.Readies.{inverse_lines, judged-given}
 use Rattle.step.proofs.Shifts.{moved_marks}
-use Rattle.std.specs.Prelude.{Result, Ok, Err}
+use Rattle.std.specs.Prelude.{Result, Ok, Err, Option}
 
 -- the inverse as it is lent to be printed
 module _ (a : Applied) (x f s : List ℕ) where
@@ -77,9 +78,12 @@ zeros n h =
     let e : replicate {A = ℕ} buffer_limit 0 ≡ replicate n 0 ++ replicate (buffer_limit - n) 0 = sym (replicate-append-replicate {A = ℕ} n (buffer_limit - n) 0 ∙ ap (λ (i : ℕ). replicate i 0) k) in
     front (replicate buffer_limit 0) n ∙ ap (take n) e ∙ take_at (replicate n 0) (replicate (buffer_limit - n) 0) n (length-replicate {A = ℕ} n 0)
 
-module _ (c : Script) (t m : List ℕ) (h : Ready c t m) where
+module _ (c : Script) (t : List ℕ) (m : List (Option Sel)) (h : Ready c t m) where
   abbrev s : State
   s = state_of c t m
+
+  roomy : c.place.marks ≤ length m
+  roomy = omega (arith, h.few, h.room)
 
   pub text-fits : (c.view.used ≤ length t) × (length (take (c.view.used - 0) (drop 0 t)) ≤ text_limit)
   text-fits =
@@ -90,7 +94,7 @@ module _ (c : Script) (t m : List ℕ) (h : Ready c t m) where
   pub refusal_leaves : (r : Progress) (n : ℕ) (o u : List ℕ) → (r.script ≡ c) × (r.printed ≡ 3) × (u ≡ over (printed_as (n ∷ [])) o) → left r t m u ≡ leaves (refuses s n) m o
   refusal_leaves r n o u q =
       let k : length (printed_as (n ∷ [])) ≡ 3 = omega (arith, printed-length (n ∷ [])) in
-      rw (q.0, q.1, q.2, h.hold, k)
+      rw (q.0, q.1, q.2, marks_stay c.place.marks m roomy, k)
 
   module _ (w : Whole ℕ) where
     abbrev call : Outcome
@@ -112,8 +116,8 @@ module _ (c : Script) (t m : List ℕ) (h : Ready c t m) where
             rw (front t c.view.used) (few-first (take c.view.used t) w.edit w.payload w.first w.second (T_true (few_ok (take c.view.used t) w.edit w.payload w.first w.second) p.fews)),
           )
 
-      pub carried-over : ordered_ok w.edit ≡ true → (n : List ℕ)
-          → n ≡ over (flat_marks (map (carried_mark (take (c.view.used - 0) (drop 0 t)) w.edit w.payload w.first) (marks_in c.place.marks m))) m → n ≡ carried_in s w m
+      pub carried-over : ordered_ok w.edit ≡ true → (n : List (Option Sel))
+          → n ≡ marks_over (map (carried_mark (take (c.view.used - 0) (drop 0 t)) w.edit w.payload w.first) (marks_in c.place.marks m)) m → n ≡ carried_in s w m
       carried-over ends n e = e ∙ rw (front t c.view.used, moved_marks s w g ends (marks_in c.place.marks m))
 
     module _ (p : Paper Applied) (t' x f g : List ℕ) (e : outcome p t' x f g ≡ applied c.view w.edit lent_here) where
@@ -169,14 +173,13 @@ module _ (c : Script) (t m : List ℕ) (h : Ready c t m) where
               rw inverse_same (inverse_lines c t m h w a (answers ∙ q)),
             )
 
-        module _ (n : List ℕ) (moved : n ≡ carried_in s w m) where
+        module _ (n : List (Option Sel)) (moved : n ≡ carried_in s w m) where
           pub moved_long : length n ≡ length m
           moved_long =
-              let ms = marks_in c.place.marks m in
-              let l : length (flat_marks (map (carried s w) ms)) ≡ 5 * c.place.marks = omega (arith, length-marks (map (carried s w) ms), length-map ms (carried s w), count_marks c.place.marks m) in
-              ap length moved ∙ simp (length-append, length-drop) (omega (arith, h.few, h.room))
+              let l : length (map (carried s w) s.marks) ≡ c.place.marks = length-map s.marks (carried s w) ∙ count_marks c.place.marks m roomy in
+              ap length moved ∙ over_length (map (carried s w) s.marks) m (omega (arith, roomy))
 
-          pub accept_leaves : (r : Progress) (o u m' : List ℕ)
+          pub accept_leaves : (r : Progress) (o u : List ℕ) (m' : List (Option Sel))
               → (r.script ≡ record { view = a.view; place = c.place }) × (m' ≡ n) × (u ≡ over (printed_as (0 ∷ frame_bytes (edit (inverse_in a back f g)))) o) × (r.printed ≡ length (printed_as (0 ∷ frame_bytes (edit (inverse_in a back f g)))))
               → left r t' m' u ≡ leaves (ran s w) m o
           unfolding answered
@@ -185,7 +188,7 @@ module _ (c : Script) (t m : List ℕ) (h : Ready c t m) where
               rw (ran-answered (done a) (answers ∙ q), b, z.0, z.1, z.2, z.3, moved, inverse_same)
 
 -- an edit e with its ends in order is d, which was judged
-module _ (c : Script) (t m : List ℕ) (h : Ready c t m) (e d : Edit) (x f g : List ℕ) (q : d ≡ in_order e) (v : Result (Unit {0}) Refusal)
+module _ (c : Script) (t : List ℕ) (m : List (Option Sel)) (h : Ready c t m) (e d : Edit) (x f g : List ℕ) (q : d ≡ in_order e) (v : Result (Unit {0}) Refusal)
     (j : paper v ≡ verdict_of (later_tests (small_ok d f g) (few_ok (take (c.view.used - 0) (drop 0 t)) d x f g) (payload_ok d x f))) where
   abbrev given : Paper (Unit {0})
   given = verdict_of (given_tests c.view d (lent_to (state_of c t m) (whole d x f g)))
@@ -211,7 +214,7 @@ module _ (c : Script) (t m : List ℕ) (h : Ready c t m) (e d : Edit) (x f g : L
       fine_leaves (left r t m u) o (rw b (refusal_leaves c t m h r (number_of why) o u k))
 
 -- what the reader held out of a line
-module _ (c : Script) (t m : List ℕ) (h : Ready c t m) (p : Paper Frame) where
+module _ (c : Script) (t : List ℕ) (m : List (Option Sel)) (h : Ready c t m) (p : Paper Frame) where
   pub edit_leaves : (e : Edit) (x : List ℕ) (n : ℕ) (f : List ℕ) (i : ℕ) (g : List ℕ) (j : ℕ) → Held p e x n f i g j → (y : Left) (o : List ℕ)
       → y ≡ leaves (edited (state_of c t m) (whole e (take (n - 0) (drop 0 x)) (take (i - 0) (drop 0 f)) (take (j - 0) (drop 0 g)))) m o
       → y ≡ leaves (framed (state_of c t m) p) m o

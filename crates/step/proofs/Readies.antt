@@ -1,13 +1,13 @@
 -- What holds between two lines holds after each, and no line prints more than a line.
-use mathlib.Core.Path.{◌≡◌, refl, sym, ap, ◌∙◌}
+use mathlib.Core.Path.{◌≡◌, refl, ap, ◌∙◌}
 use mathlib.Core.Bool.{Bool, true, false, cond, not, ◌&&◌}
-use mathlib.Core.List.{List, [], ◌∷◌, ◌++◌, map, flatten, append-nil}
-use Prim.Native.Nat.{ℕ, suc, ◌+◌, ◌-◌, ◌*◌, ◌≤◌, ◌<◌}
+use mathlib.Core.List.{List, [], ◌∷◌, ◌++◌, map, map-append, flatten}
+use Prim.Native.Nat.{ℕ, suc, ◌+◌, ◌-◌, ◌≤◌, ◌<◌}
 use native.Mathlib.Omega.{arith}
 use borrow.Author.Tests.{le-leb, ltb-false}
 use lib.Dec.{ltb, leb}
-use lib.ListN.{length, take, drop, replicate, length-append, length-drop, length-map, length-replicate}
-use lib.Seq.{paste, take_at, take_all, drop-append_seam, take-append_seam, length-take-le}
+use lib.ListN.{length, take, drop, set, replicate, length-append, length-drop, length-map, length-replicate}
+use lib.Seq.{take-append_seam, length-take-le}
 use Rattle.promise.specs.Paper.{Paper, done, refused}
 use Rattle.promise.specs.Slices.{over}
 use Rattle.promise.proofs.Bools.{both, T_true, T-right}
@@ -42,8 +42,10 @@ use Rattle.place.specs.Places.{mark_limit, judged, seen}
 use Rattle.place.proofs.InPlace.{mark_few}
 use Rattle.printing.specs.Prints.{printed_as}
 use Rattle.printing.proofs.Printed.{printed-length}
-use Rattle.marking.specs.FlatMarks.{flat_mark, flat_marks, marks_in}
-use Rattle.marking.proofs.FlatMarks.{length-mark, length-marks, flat_append, count_marks, marks_over}
+use Rattle.marking.specs.Slots.{slot_of, marks_over}
+use Rattle.marking.proofs.Slots.{slots-followed, count_marks, over_length}
+use Rattle.std.specs.Prelude.{Option, Some, None}
+use Rattle.std.proofs.lemmas.List.{take-append-drop, take_more_set, drop-set-lt}
 use Rattle.loading.specs.declared.Script.{Script}
 use Rattle.loading.specs.States.{State, state, text_in, buffer_limit, opening, state_of, script_of}
 use Rattle.loading.specs.Loads.{Stepped, stepped, refuses, loaded, framed_by}
@@ -91,22 +93,14 @@ module _ (s : State) (w : Whole ℕ) (a : Applied) where
 -- ---- after a line
 
 -- ready for the next line, with as many marks as are counted, and no more printed than a line of 36,864 digits, the two of 00, and LF
-pub record Onward (x : Stepped) (m : List ℕ) : Type 0 where
-  pub ready : Ready (script_of x.state) x.state.buffer (over (flat_marks x.state.marks) m)
+pub record Onward (x : Stepped) (m : List (Option Sel)) : Type 0 where
+  pub ready : Ready (script_of x.state) x.state.buffer (marks_over x.state.marks m)
   pub short : length x.printed ≤ 36_867
   pub count : length x.state.marks ≡ x.state.place.marks
 
-stands : (s : State) (m : List ℕ) → text_ok s.buffer s.view.used ≡ true → length s.buffer ≤ buffer_limit → length m ≡ 320 → s.place.marks ≤ mark_limit → length s.marks ≡ s.place.marks
-    → Ready (script_of s) s.buffer (over (flat_marks s.marks) m)
-stands s m t b r f n =
-    let k : length (flat_marks s.marks) ≤ length m = omega (arith, length-marks s.marks) in
-    record {
-      admitted = t;
-      small = b;
-      room = simp (length-append, length-drop) (omega arith);
-      few = f;
-      hold = rw (marks_over s.place.marks s.marks m n, drop-append_seam);
-    }
+stands : (s : State) (m : List (Option Sel)) → text_ok s.buffer s.view.used ≡ true → length s.buffer ≤ buffer_limit → length m ≡ mark_limit → s.place.marks ≤ mark_limit → length s.marks ≡ s.place.marks
+    → Ready (script_of s) s.buffer (marks_over s.marks m)
+stands s m t b r f n = record { admitted = t; small = b; room = over_length s.marks m (omega arith) ∙ r; few = f }
 
 text-loaded : (cs b : List ℕ) → all_admissible cs ≡ true → length cs ≤ length b → length b ≤ buffer_limit → (text_ok (over cs b) (length cs) ≡ true) × (length (over cs b) ≡ length b)
 unfolding text_ok
@@ -114,16 +108,19 @@ text-loaded cs b e h k =
     let n : length (over cs b) ≡ length b = simp (length-append, length-drop) (omega arith) in
     (rw (n, le-leb (length cs) (length b) h, le-leb (length cs) 16_384 (omega arith), take-append_seam) e, n)
 
-module _ (c : Script) (t m : List ℕ) (h : Ready c t m) where
+module _ (c : Script) (t : List ℕ) (m : List (Option Sel)) (h : Ready c t m) where
   abbrev s : State
   s = state_of c t m
+
+  counted : length s.marks ≡ c.place.marks
+  counted = count_marks c.place.marks m (omega (arith, h.few, h.room))
 
   abbrev holding : List ℕ → State
   holding cs = state (record { used = length cs; cursor = at 0 0; changes = c.view.changes }) (over cs t) c.place s.marks
 
   pub ready_refused : (n : ℕ) → Onward (refuses s n) m
   ready_refused n =
-      record { ready = stands s m h.admitted h.small h.room h.few (count_marks c.place.marks m); short = omega (arith, printed-length (n ∷ [])); count = count_marks c.place.marks m }
+      record { ready = stands s m h.admitted h.small h.room h.few counted; short = omega (arith, printed-length (n ∷ [])); count = counted }
 
   pub ready_loaded : (cs : List ℕ) → Onward (loaded s cs) m
   unfolding loaded
@@ -135,29 +132,29 @@ module _ (c : Script) (t m : List ℕ) (h : Ready c t m) where
       go true false e f =
           let k = text-loaded cs t e (ltb-false (length t) (length cs) f) h.small in
           record {
-            ready = stands (holding cs) m k.0 (omega (arith, k.1, h.small)) h.room h.few (count_marks c.place.marks m);
+            ready = stands (holding cs) m k.0 (omega (arith, k.1, h.small)) h.room h.few counted;
             short = omega arith;
-            count = count_marks c.place.marks m;
+            count = counted;
           }
       go false q e f = ready_refused 1
 
   pub ready_mark : (k : Sel) (p : Place) → p.marks ≡ suc c.place.marks → c.place.marks < mark_limit
       → Onward (stepped (state c.view t p (s.marks ++ (to k ∷ []))) []) m
   ready_mark k p e f =
-      let n : length (s.marks ++ (to k ∷ [])) ≡ p.marks = rw length-append (omega (arith, count_marks c.place.marks m)) in
+      let n : length (s.marks ++ (to k ∷ [])) ≡ p.marks = rw length-append (omega (arith, counted)) in
       record { ready = stands (state c.view t p (s.marks ++ (to k ∷ []))) m h.admitted h.small h.room (omega arith) n; short = omega arith; count = n }
 
-  -- its five numbers behind those of the marks before it
-  pub mark_kept : (k : Sel) → c.place.marks < mark_limit → paste m ((suc c.place.marks - 1) * 5) (flat_mark (to k)) 5 ≡ over (flat_marks (s.marks ++ (to k ∷ []))) m
-  unfolding flat_marks
+  -- it stands behind the marks before it
+  pub mark_kept : (k : Sel) → c.place.marks < mark_limit → set m (suc c.place.marks - 1) (Some k) ≡ marks_over (s.marks ++ (to k ∷ [])) m
+  unfolding slot_of
   mark_kept k f =
       let n = c.place.marks in
-      let ms = marks_in n m in
-      let i : (suc n - 1) * 5 ≡ n * 5 = omega arith in
-      let l : length (flat_marks ms) ≡ n * 5 = omega (arith, length-marks ms, count_marks n m) in
-      let a : take (n * 5) m ≡ flat_marks ms = ap (take (n * 5)) (sym h.hold) ∙ take_at (flat_marks ms) (drop (length (flat_marks ms)) m) (n * 5) l in
-      let b : length (flat_marks ms ++ flat_mark (to k)) ≡ n * 5 + 5 = rw length-append (omega (arith, length-mark (to k))) in
-      rw (i, a, take_all 5 (flat_mark (to k)) (omega (arith, length-mark (to k))), flat_append, append-nil, b)
+      let i : suc n - 1 ≡ n = omega arith in
+      let j : n < length m = omega (arith, h.room) in
+      let l : length (s.marks ++ (to k ∷ [])) ≡ n + 1 = rw length-append (omega (arith, counted)) in
+      let r = set m n (Some k) in
+      let a : take (n + 1) r ++ drop (n + 1) r ≡ r = take-append-drop (n + 1) r in
+      rw (i, ← a, take_more_set m n (Some k) j, drop-set-lt (n + 1) m n (Some k) (omega arith), l, map-append, slots-followed (take n m))
 
   pub ready_ran : (w : Whole ℕ) → Onward (ran s w) m
   unfolding ran answered
@@ -167,7 +164,7 @@ module _ (c : Script) (t m : List ℕ) (h : Ready c t m) where
       go (done a) e =
           let r : Outcome = applied c.view w.edit (lent_to s w) in
           let n = (lengths_kept c.view w.edit (lent_to s w)).text in
-          let k : length (map (carried s w) s.marks) ≡ c.place.marks = length-map s.marks (carried s w) ∙ count_marks c.place.marks m in
+          let k : length (map (carried s w) s.marks) ≡ c.place.marks = length-map s.marks (carried s w) ∙ counted in
           let i = line-short (format.edit (returned a r)) (inverse_line s w a e h.small) in
           record {
             ready = stands (state a.view r.text c.place (map (carried s w) s.marks)) m (accepted-text s w a e) (omega (arith, h.small)) h.room h.few k;
@@ -192,10 +189,10 @@ module _ (c : Script) (t m : List ℕ) (h : Ready c t m) where
 -- ---- any line
 
 -- what has been seen besides the marks does not matter
-pub ready_seen : (c : Script) (p : Place) (t m : List ℕ) → p.marks ≡ c.place.marks → Ready c t m → Ready (record { view = c.view; place = p }) t m
-ready_seen c p t m e h = record { admitted = h.admitted; small = h.small; room = h.room; few = omega (arith, h.few); hold = rw e h.hold }
+pub ready_seen : (c : Script) (p : Place) (t : List ℕ) (m : List (Option Sel)) → p.marks ≡ c.place.marks → Ready c t m → Ready (record { view = c.view; place = p }) t m
+ready_seen c p t m e h = record { admitted = h.admitted; small = h.small; room = h.room; few = omega (arith, h.few) }
 
-module _ (c : Script) (t m : List ℕ) (h : Ready c t m) where
+module _ (c : Script) (t : List ℕ) (m : List (Option Sel)) (h : Ready c t m) where
   read_text : (r : Contents) → Onward (framed (state_of c t m) (text_of r)) m
   unfolding framed_by text_of
   read_text (chars xs) = ready_loaded c t m h (flatten xs)
@@ -206,7 +203,7 @@ module _ (c : Script) (t m : List ℕ) (h : Ready c t m) where
   read_edit e f g (chars xs) = ready_ran c t m h (ordered (whole e (flatten xs) (first_list e xs f) g))
   read_edit e f g (bad_from k) = ready_refused c t m h 5
 
-module _ (c : Script) (t m l : List ℕ) (h : Ready c t m) where
+module _ (c : Script) (t : List ℕ) (m : List (Option Sel)) (l : List ℕ) (h : Ready c t m) where
   onward : (g : Form) → judged c.place (text_in (state_of c t m)) l ≡ g → Onward (framed (sees (state_of c t m) (seen c.place g)) (read_form g)) m
   unfolding framed_by read_form seen
   onward malformed e = ready_refused c t m h 10
@@ -218,7 +215,7 @@ module _ (c : Script) (t m l : List ℕ) (h : Ready c t m) where
   unfolding step
   after-step = onward (judged c.place (text_in (state_of c t m)) l) refl
 
-  pub ready_step : let x = step (state_of c t m) l in Ready (script_of x.state) x.state.buffer (over (flat_marks x.state.marks) m)
+  pub ready_step : let x = step (state_of c t m) l in Ready (script_of x.state) x.state.buffer (marks_over x.state.marks m)
   ready_step = after-step.ready
 
   pub printed-short : length (step (state_of c t m) l).printed ≤ 36_867
@@ -229,18 +226,16 @@ module _ (c : Script) (t m l : List ℕ) (h : Ready c t m) where
 
 -- ---- at the start
 
-pub opening-state : state_of (script_of opening) (replicate 4_096 0) (replicate 320 0) ≡ opening
-unfolding marks_in
+pub opening-state : state_of (script_of opening) (replicate 4_096 0) (replicate 64 None) ≡ opening
 opening-state = refl
 
-pub ready_opening : Ready (script_of opening) (replicate 4_096 0) (replicate 320 0)
-unfolding text_ok all marks_in flat_marks
+pub ready_opening : Ready (script_of opening) (replicate 4_096 0) (replicate 64 None)
+unfolding text_ok all
 ready_opening = record {
   admitted = rw (le-leb 0 (length {A = ℕ} (replicate 4_096 0)) (omega arith));
   small = omega (arith, length-replicate {A = ℕ} 4_096 0);
-  room = length-replicate {A = ℕ} 320 0;
+  room = length-replicate {A = Option Sel} 64 None;
   few = omega arith;
-  hold = refl;
 }
 
 -- ---- rows 1 to 4, of a text that is admitted

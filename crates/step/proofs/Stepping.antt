@@ -2,12 +2,11 @@
 use mathlib.Core.Path.{◌≡◌, refl, sym, ap, ◌∙◌}
 use mathlib.Core.Bool.{Bool, true, false, cond, not}
 use mathlib.Core.List.{List, [], ◌∷◌, flatten}
-use Prim.Native.Nat.{ℕ, suc, ◌-◌, ◌*◌, ◌≤◌, ◌<◌}
+use Prim.Native.Nat.{ℕ, suc, ◌-◌, ◌≤◌, ◌<◌}
 use native.Mathlib.Nat.{sub-zero}
 use native.Mathlib.Omega.{arith}
 use lib.Dec.{ltb}
-use lib.ListN.{length, take, drop}
-use lib.Seq.{paste}
+use lib.ListN.{length, take, drop, set}
 use Rattle.promise.specs.Slices.{over}
 use Rattle.text.specs.Rows.{at}
 use Rattle.text.specs.Text.{all_admissible}
@@ -15,7 +14,7 @@ use Rattle.hexline.specs.Digits.{hexed}
 use Rattle.edit.specs.declared.Edit.{Edit}
 use Rattle.edit.specs.Edits.{Whole}
 use Rattle.select.specs.declared.Sel.{Sel}
-use Rattle.shift.specs.Answers.{Followed, to}
+use Rattle.shift.specs.Answers.{Followed}
 use Rattle.frame.specs.declared.Head.{Head}
 use Rattle.frame.specs.declared.Head.TheVariants as as_head
 use Rattle.frame.specs.Forms.{Form, malformed, text, mark, edit, line_form, head_of}
@@ -25,7 +24,9 @@ use Rattle.place.specs.declared.Place.{Place}
 use Rattle.place.specs.Places.{judged, seen}
 use Rattle.place.proofs.InPlace.{in_place, mark_few, edit_seen}
 use Rattle.printing.specs.Prints.{printed_as}
-use Rattle.marking.specs.FlatMarks.{flat_mark, flat_marks}
+use Rattle.marking.specs.Slots.{marks_over}
+use Rattle.marking.proofs.Slots.{marks_stay}
+use Rattle.std.specs.Prelude.{Option, Some}
 use Rattle.loading.specs.declared.Script.{Script}
 use Rattle.loading.specs.declared.Progress.{Progress}
 use Rattle.loading.specs.States.{State, state, state_of, text_in, script_of}
@@ -65,10 +66,13 @@ text-marks s (edit d at ks f k) e = never cc
 -- ---- the step
 
 -- h was judged, and q is what has been seen with it
-module _ (c : Script) (t m l : List ℕ) (ready : Ready c t m) (h : Head) (e : h ≡ head_of (judged c.place (take (c.view.used - 0) (drop 0 t)) l)) (q : Place)
+module _ (c : Script) (t : List ℕ) (m : List (Option Sel)) (l : List ℕ) (ready : Ready c t m) (h : Head) (e : h ≡ head_of (judged c.place (take (c.view.used - 0) (drop 0 t)) l)) (q : Place)
     (saw : (g : Form) → head_of g ≡ h → q ≡ seen c.place g) where
   abbrev s : State
   s = state_of c t m
+
+  kept : marks_over s.marks m ≡ m
+  kept = marks_stay c.place.marks m (omega (arith, ready.few, ready.room))
 
   abbrev g : Form
   g = judged c.place (text_in s) l
@@ -97,7 +101,7 @@ module _ (c : Script) (t m l : List ℕ) (ready : Ready c t m) (h : Head) (e : h
   mark_seen : (k : Sel) → h ≡ as_head.Mark k → (g ≡ mark k) × (q ≡ seen c.place (mark k))
   mark_seen k i = let f = mark_by_head g k (told ∙ i) in (f, saw (mark k) (ap head_of (sym f) ∙ told))
 
-  pub mark_room : (k : Sel) → h ≡ as_head.Mark k → (0 < q.marks) × (q.marks ≤ 64) × (length m ≡ 320)
+  pub mark_room : (k : Sel) → h ≡ as_head.Mark k → (0 < q.marks) × (q.marks ≤ 64) × (length m ≡ 64)
   unfolding seen
   mark_room k i =
       let f = mark_seen k i in
@@ -120,7 +124,7 @@ module _ (c : Script) (t m l : List ℕ) (ready : Ready c t m) (h : Head) (e : h
     unfolding framed_by read_form hexed
     malformed_left z k a b d =
         let f = malformed_by_head g (told ∙ k) in
-        rw (stepped-as, f, a, b, d, ready.hold)
+        rw (stepped-as, f, a, b, d, kept)
 
     pub text-left : (u z : List ℕ) → h ≡ as_head.Text
         → ((ms : List (Followed Sel)) (f : Whole ℕ → Stepped) → part r u z ≡ part_of (framed_by f (state c.view t q ms) (frame_read l)) o)
@@ -134,9 +138,9 @@ module _ (c : Script) (t m l : List ℕ) (ready : Ready c t m) (h : Head) (e : h
         let j : r.printed ≡ length (step s l).printed = rw x (ap (λ (y : Part). y.printed) d) in
         let v : u ≡ (step s l).state.buffer = rw x (ap (λ (y : Part). y.text) d) in
         let b : z ≡ over (step s l).printed o = rw x (ap (λ (y : Part). y.out) d) in
-        rw (i, j, v, b, w, ready.hold)
+        rw (i, j, v, b, w, kept)
 
-    pub mark_left : (k : Sel) → h ≡ as_head.Mark k → (y : List ℕ) → r.script ≡ next → r.printed ≡ 0 → y ≡ paste m ((q.marks - 1) * 5) (flat_mark (to k)) 5
+    pub mark_left : (k : Sel) → h ≡ as_head.Mark k → (y : List (Option Sel)) → r.script ≡ next → r.printed ≡ 0 → y ≡ set m (q.marks - 1) (Some k)
         → left r t y o ≡ step_leaves c l t m o
     unfolding framed_by read_form seen
     mark_left k i y a b d =
@@ -144,17 +148,17 @@ module _ (c : Script) (t m l : List ℕ) (ready : Ready c t m) (h : Head) (e : h
         let w = mark_few c.place (text_in s) (line_form l) k f.0 in
         rw (stepped-as, f.0, a, b, d, f.1, mark_kept c t m ready k w)
 
-    pub edit_left : (d : Edit) → h ≡ as_head.Edit d → (u y z : List ℕ) → left r u y z ≡ leaves (framed (state_of next t m) (frame_read l)) m o
+    pub edit_left : (d : Edit) → h ≡ as_head.Edit d → (u : List ℕ) (y : List (Option Sel)) (z : List ℕ) → left r u y z ≡ leaves (framed (state_of next t m) (frame_read l)) m o
         → left r u y z ≡ step_leaves c l t m o
     edit_left d k u y z a =
         let x : state_of next t m ≡ sees s q = rw (marks_kept d k) in
         a ∙ ap (λ (w : State). leaves (framed w (frame_read l)) m o) x ∙ ap (λ (w : Stepped). leaves w m o) (sym (stepped-read (λ w. never cc)))
 
   -- ready for the next line
-  pub still_ready : (r : Progress) (u y z o : List ℕ) → left r u y z ≡ step_leaves c l t m o → Ready r.script u y × (r.printed ≤ 36_867)
+  pub still_ready : (r : Progress) (u : List ℕ) (y : List (Option Sel)) (z o : List ℕ) → left r u y z ≡ step_leaves c l t m o → Ready r.script u y × (r.printed ≤ 36_867)
   still_ready r u y z o d =
       let a : r.script ≡ script_of (step s l).state = ap (λ (x : Left). x.script) d in
       let b : r.printed ≡ length (step s l).printed = ap (λ (x : Left). x.printed) d in
       let v : u ≡ (step s l).state.buffer = ap (λ (x : Left). x.text) d in
-      let w : y ≡ over (flat_marks (step s l).state.marks) m = ap (λ (x : Left). x.marks) d in
+      let w : y ≡ marks_over (step s l).state.marks m = ap (λ (x : Left). x.marks) d in
       (rw (a, v, w) (ready_step c t m l ready), omega (arith, printed-short c t m l ready))

@@ -1,5 +1,6 @@
 -- What is proved beside that the code meets its promises. The proofs stand in proofs/Theorems.antt.
-use Rattle.std.specs.Prelude.{List, ℕ}
+use Rattle.std.specs.Prelude.{List, ℕ, Option}
+use Rattle.select.specs.declared.Sel.{Sel}
 use Rattle.promise.specs.Settled.{Settles}
 use Rattle.loading.specs.declared.Progress.{Progress}
 use Rattle.step.specs.Calls.{left}
@@ -8,7 +9,7 @@ use Rattle.step.specs.Calls.{left}
 pub record Exit : Type 0 where
   pub progress : Progress
   pub text : List ℕ
-  pub marks : List ℕ
+  pub marks : List (Option Sel)
   pub out : List ℕ
 
 -- The promise of `step` settles all of it.

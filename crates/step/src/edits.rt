@@ -16,17 +16,17 @@ ghost use Rattle.loading.specs.States.{state_of};
 ghost use Rattle.step.specs.Steps.{lent_to, ran, edited, framed};
 ghost use Rattle.step.specs.Calls.{Ready, left, leaves, carried_in, inverse_in};
 
+use crate::MARK_ROOM;
 use apply::apply_judged;
 use edit::{Applied, Edit, Refusal};
 use frame::{BYTE_LIMIT, SHORT_BYTES, SHORT_LINE};
 use given::judge_admitted;
 use loading::{Progress, Script, refuse};
-use marking::{carry_copy, in_order};
+use marking::{carry_copy, copy_marks, in_order};
 use place::Place;
 use printing::print_inverse;
 use reader::{FrameRead, read};
-use splice::copy_in;
-use text::CharOffset;
+use select::Sel;
 
 // What an accepted edit leaves beside its text: the marks over it, and the line of its inverse.
 fn accept(
@@ -35,14 +35,14 @@ fn accept(
     payload: &[u32],
     first: &[u32],
     second: &[u32],
-    moved: &[u32],
-    marks: &mut [u32],
+    moved: &[Option<Sel>],
+    marks: &mut [Option<Sel>],
     out: &mut [u8],
 ) -> Progress
     requires { (length moved.now ≡ length marks.old) × (36_867 ≤ length out.old) × (done.payload ≤ length payload.now) × (done.first ≤ length first.now) × (done.second ≤ length second.now) × HasLine (edit_frame (inverse_in done payload.now first.now second.now)) }
     ensures { (result.script ≡ record { view = done.view; place = place }) × (marks.new ≡ moved.now) × (out.new ≡ over (printed_as (0 ∷ frame_bytes (edit_frame (inverse_in done payload.now first.now second.now)))) out.old) × (result.printed ≡ length (printed_as (0 ∷ frame_bytes (edit_frame (inverse_in done payload.now first.now second.now))))) }
 {
-    copy_in(marks, CharOffset(0), moved);
+    copy_marks(moved, marks);
     let x = done.payload;
     let f = done.first;
     let s = done.second;
@@ -62,9 +62,9 @@ fn apply_moved(
     payload: &[u32],
     first: &[u32],
     second: &[u32],
-    moved: &[u32],
+    moved: &[Option<Sel>],
     text: &mut [u32],
-    marks: &mut [u32],
+    marks: &mut [Option<Sel>],
     out: &mut [u8],
 ) -> Progress
     requires { Ready script text.old marks.old × (36_867 ≤ length out.old) × (verdict_of (given_tests script.view edit (lent_to (state_of script text.old marks.old) (whole edit payload.now first.now second.now))) ≡ done tt) × (moved.now ≡ carried_in (state_of script text.old marks.old) (whole edit payload.now first.now second.now) marks.old) }
@@ -110,7 +110,7 @@ fn apply_frame(
     first: &[u32],
     second: &[u32],
     text: &mut [u32],
-    marks: &mut [u32],
+    marks: &mut [Option<Sel>],
     out: &mut [u8],
 ) -> Progress
     requires { Ready script text.old marks.old × (36_867 ≤ length out.old) × (ordered_ok edit ≡ true) × (verdict_of (given_tests script.view edit (lent_to (state_of script text.old marks.old) (whole edit payload.now first.now second.now))) ≡ done tt) }
@@ -120,7 +120,7 @@ fn apply_frame(
     let place = script.place;
     let used = view.used;
     let count = place.marks;
-    let mut moved = [0u32; 320];
+    let mut moved = [None; MARK_ROOM];
     carry_copy(
         &text[0..used],
         edit,
@@ -143,7 +143,7 @@ fn run_frame(
     first: &[u32],
     second: &[u32],
     text: &mut [u32],
-    marks: &mut [u32],
+    marks: &mut [Option<Sel>],
     out: &mut [u8],
 ) -> Progress
     requires { Ready script text.old marks.old × (36_867 ≤ length out.old) }
@@ -167,7 +167,7 @@ fn step_read(
     first: &mut [u32],
     second: &mut [u32],
     text: &mut [u32],
-    marks: &mut [u32],
+    marks: &mut [Option<Sel>],
     out: &mut [u8],
 ) -> Progress
     requires { Ready script text.old marks.old × (36_867 ≤ length out.old) × ((e : AnEdit) × (head_of (line_form line.now) ≡ as_head.Edit e)) × ((length line.now ≤ 2 * length payload.old) × (length line.now ≤ 8 * length first.old) × (length line.now ≤ 10 * length second.old)) }
@@ -202,7 +202,7 @@ pub fn step_edit(
     script: Script,
     line: &[u8],
     text: &mut [u32],
-    marks: &mut [u32],
+    marks: &mut [Option<Sel>],
     out: &mut [u8],
 ) -> Progress
     requires { Ready script text.old marks.old × (36_867 ≤ length out.old) × ((e : AnEdit) × (head_of (line_form line.now) ≡ as_head.Edit e)) }

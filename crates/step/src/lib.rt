@@ -12,12 +12,13 @@ use edit::{Refusal, View};
 use frame::Head;
 use loading::{Progress, Script, keep_mark, refuse, step_text};
 use place::{Place, judge};
+use select::Sel;
 use text::{Col, Position, Row};
 
 // How long the slices are that a script is run on: its text's, its marks', and the room for what a line prints.
 pub const TEXT_ROOM: usize = 4_096;
 
-pub const MARK_ROOM: usize = 320;
+pub const MARK_ROOM: usize = 64;
 
 pub const LINE_ROOM: usize = 36_867;
 
@@ -47,7 +48,7 @@ pub fn step(
     script: Script,
     line: &[u8],
     text: &mut [u32],
-    marks: &mut [u32],
+    marks: &mut [Option<Sel>],
     out: &mut [u8],
 ) -> Progress
     requires { Ready script text.old marks.old × (36_867 ≤ length out.old) }

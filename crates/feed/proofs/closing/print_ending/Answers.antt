@@ -1,12 +1,12 @@
 use mathlib.Core.Path.{ap, sym, ◌∙◌}
-use mathlib.Core.List.{List}
-use Prim.Native.Nat.{ℕ}
+use mathlib.Core.List.{List, map}
+use Prim.Native.Nat.{ℕ, ◌-◌}
 use native.Mathlib.Omega.{arith}
-use lib.ListN.{length, length-append}
+use lib.ListN.{length, take, length-append, length-take}
 use Rattle.promise.specs.Slices.{over}
 use Rattle.frame.specs.Format.{text, frame_bytes}
 use Rattle.printing.specs.Prints.{printed_as}
-use Rattle.marking.specs.FlatMarks.{marks_in}
+use Rattle.shift.specs.Answers.{followed}
 use Rattle.marking.specs.MarkLines.{mark_lines}
 use Rattle.feed.proofs.Ends.{part_length, behind}
 use Rattle.feed.proofs.Closings.{used, text-line, text-within, ended}
@@ -25,7 +25,7 @@ pub slice_bounds-print_marks-start : goal.slice_bounds-print_marks-start
 slice_bounds-print_marks-start c = let a = c.args in omega (arith, c.print_text-size.ensures.1, (text-line a.script a.text.now a.marks.now c.requires.0).1, c.requires.1, c.out-1.given)
 
 pub print_marks-more-requires : goal.print_marks-more-requires
-print_marks-more-requires c = let a = c.args in let h = c.requires.0 in let p = c.print_text-size in (omega (arith, h.room, h.few), h.few, omega (arith, part_length p.new.out p.result, p.ensures.1, (text-line a.script a.text.now a.marks.now h).1, c.requires.1, c.out-1.given))
+print_marks-more-requires c = let a = c.args in let h = c.requires.0 in let p = c.print_text-size in (omega (arith, h.few, length-take (a.script.place.marks - 0) a.marks.now), omega (arith, part_length p.new.out p.result, p.ensures.1, (text-line a.script a.text.now a.marks.now h).1, c.requires.1, c.out-1.given))
 
 pub overflow_add-result : goal.overflow_add-result
 overflow_add-result c = let a = c.args in omega (arith, c.print_text-size.ensures.1, (text-line a.script a.text.now a.marks.now c.requires.0).1, c.print_marks-more.ensures.2)
@@ -33,7 +33,7 @@ overflow_add-result c = let a = c.args in omega (arith, c.print_text-size.ensure
 pub returns : goal.returns
 returns c = let a = c.args in let p = c.print_text-size in let m = c.print_marks-more in
     let x : List ℕ = printed_as (frame_bytes (text (used a.script a.text.now a.marks.now))) in
-    let z : List ℕ = mark_lines (marks_in a.script.place.marks a.marks.now) in
+    let z : List ℕ = mark_lines (map followed (take (a.script.place.marks - 0) a.marks.now)) in
     let e = ended a.script a.text.now a.marks.now in (
       behind x z a.out.now _ _ p.result p.ensures.1 p.ensures.0 m.ensures.0 ∙ ap (λ (v : List ℕ). over v a.out.now) (sym e),
       omega (arith, p.ensures.1, m.ensures.1, length-append x z, ap length e),
