@@ -8,7 +8,7 @@ ghost use Rattle.edit.specs.Refusals.{sum, payload_ok};
 use edit::Edit;
 use text::{LF, all_admissible};
 
-// Looks at every character: without an early exit the loop is vectorised.
+// Looks at every character: without an early exit the loop is vectorised. One with `all_admissible` by a closure would be no plainer.
 fn no_lf(payload: &[u32]) -> bool
     ensures { result ≡ all (λ c. not (is_lf c)) payload.now }
 {

@@ -15,7 +15,7 @@ pub use edits::{meant_edit, meant_selection, told_edit};
 use select::Sel;
 use text::Position;
 
-// An edit's numbers, its kind among them. What the kind does not use is 0, or not read.
+// An edit's numbers, its kind among them, as C takes them. What the kind does not use is 0, or not read.
 #[repr(C)]
 #[derive(Clone, Copy)]
 pub struct Numbers {
@@ -47,7 +47,7 @@ pub struct Change {
     pub second: usize,
 }
 
-// A position, where there is one.
+// A position, where there is one: a flag, as C takes it.
 #[repr(C)]
 #[derive(Clone, Copy)]
 pub struct Found {
@@ -56,7 +56,7 @@ pub struct Found {
     pub at: Position,
 }
 
-// A selection, where there is one.
+// A selection, where there is one: a flag, as C takes it.
 #[repr(C)]
 #[derive(Clone, Copy)]
 pub struct SelFound {
@@ -65,7 +65,7 @@ pub struct SelFound {
     pub sel: Sel,
 }
 
-// The columns of a row that are covered.
+// The columns of a row that are covered, and flags, as C takes them.
 #[repr(C)]
 #[derive(Clone, Copy)]
 pub struct Cover {

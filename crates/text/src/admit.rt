@@ -12,7 +12,8 @@ fn is_admissible(x: u32) -> bool
         & !(((0x0B <= x) & (x <= 0x0D)) | (x == 0x85) | ((0x2028 <= x) & (x <= 0x2029)))
 }
 
-// Looks at every character: without an early exit the loop is vectorised.
+// Looks at every character: without an early exit the loop is vectorised. A closure for the test would make it, `all_small`, `all_flags` and
+// `no_lf` one, and no plainer.
 pub fn all_admissible(text: &[u32]) -> bool
     ensures { result ≡ all_admissible text.now }
 {
