@@ -8,7 +8,7 @@ ghost use Rattle.edit.specs.Call.{number_of};
 use text::{Position, Row};
 use utf8::{BadText, BadUtf8, ByteOffset, DecodeError, EncodeError, NoRoom};
 
-// A text's used length in the buffer that C lends, the cursor, and how many edits were accepted, modulo 2^64.
+// A text's used length in its lent buffer (C has no slice of a slice), the cursor, and how many edits were accepted, modulo 2^64.
 #[repr(C)]
 #[derive(Clone, Copy, PartialEq, Eq)]
 pub struct View {
