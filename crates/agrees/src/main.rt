@@ -5,7 +5,7 @@
 
 use edit::{Applied, Refusal, View};
 use framed::apply_frame;
-use lines::{is_passed_over, read_text};
+use lines::{PassingOver, is_passed_over, read_text};
 use reader::{FrameRead, read};
 use std::io;
 use text::{Col, Position, Row};
@@ -117,11 +117,12 @@ fn take_lines(out: &impl Print, input: &[u8], text: &mut [u32], line: &mut [u8])
 }
 
 fn main(rt: HostRuntime) -> io::Result<()> {
+    let out = PassingOver(&rt);
     let mut room = [0; 65_536];
     let mut text = [0; TEXT_ROOM];
     let mut line = [0; LINE_ROOM];
-    match read_text(rt.stdin(), &mut room)? {
-        Some(input) => take_lines(&rt, input, &mut text, &mut line),
-        None => println!(rt; "the input is too long"),
+    match read_text(rt.stdin(), &mut room) {
+        Some(input) => take_lines(&out, input, &mut text, &mut line),
+        None => println!(out; "the input is too long"),
     }
 }

@@ -1,5 +1,5 @@
 // Bytes that are put together. What has no room is left out.
-ghost use Rattle.std.specs.Prelude.{◌≤◌};
+ghost use Rattle.std.specs.Prelude.{◌≡◌, ◌≤◌};
 
 use crate::words::{Word, word_of};
 
@@ -13,7 +13,9 @@ pub(crate) struct Buffer {
 }
 
 impl Buffer {
-    pub(crate) fn new() -> Buffer {
+    pub(crate) fn new() -> Buffer
+        ensures { result.length ≡ 0 }
+    {
         Buffer {
             bytes: [0; ROOM],
             length: 0,
@@ -24,7 +26,9 @@ impl Buffer {
         &self.bytes[..self.length]
     }
 
-    pub(crate) fn clear(&mut self) {
+    pub(crate) fn clear(&mut self)
+        ensures { self.new.length ≡ 0 }
+    {
         self.length = 0;
     }
 
@@ -35,8 +39,12 @@ impl Buffer {
         self.length = end;
     }
 
+    // Ends where no more comes of it: what is pushed is empty, or there is no room.
     fn push_times(&mut self, bytes: &[u8], times: usize) {
         for _ in 0..times {
+            if bytes.is_empty() || self.length == ROOM {
+                return;
+            }
             self.push(bytes);
         }
     }

@@ -9,7 +9,7 @@ mod buffer;
 mod words;
 
 use crate::buffer::{Buffer, ROOM};
-use lines::read_text;
+use lines::{PassingOver, read_text};
 use script::run_script;
 use std::io;
 
@@ -48,9 +48,10 @@ fn take_lines(out: &impl Print, input: &[u8]) -> io::Result<()> {
 }
 
 fn main(rt: HostRuntime) -> io::Result<()> {
+    let out = PassingOver(&rt);
     let mut room = [0; 65_536];
-    match read_text(rt.stdin(), &mut room)? {
-        Some(input) => take_lines(&rt, input),
-        None => println!(rt; "the input is too long"),
+    match read_text(rt.stdin(), &mut room) {
+        Some(input) => take_lines(&out, input),
+        None => println!(out; "the input is too long"),
     }
 }

@@ -1,5 +1,5 @@
 // The words that lines are made of.
-ghost use Rattle.std.specs.Prelude.{◌<◌, IfSome};
+ghost use Rattle.std.specs.Prelude.{◌≤◌, ◌<◌, IfSome};
 
 // The most times that a word is repeated, and a number that is not to get another digit.
 const TIMES: usize = 100_000;
@@ -13,7 +13,9 @@ pub(crate) enum Word<'a> {
     Repeated(&'a [u8], usize),
 }
 
-fn decimal(digits: &[u8]) -> usize {
+fn decimal(digits: &[u8]) -> usize
+    ensures { result ≤ 100_000 }
+{
     let mut value = 0;
     for digit in digits {
         if FULL <= value {

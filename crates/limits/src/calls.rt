@@ -1,7 +1,7 @@
 // One call of `apply_edit_in` or `set_cursor` on arrays that a trial's numbers fill.
 use crate::show::{Done, print_cursor, print_refused};
 use crate::trial::{Call, ITEMS, ROOM, Trial};
-use edit::{Applied, Edit, Refusal, View};
+use edit::Edit;
 use std::io;
 use text::Position;
 use thin::apply_edit_in;
@@ -22,6 +22,13 @@ pub(crate) struct Lent {
     pub(crate) second: [u32; ITEMS],
 }
 
+// The sum goes on from `start`, so that several slices have one.
+fn checksum_from(start: u32, items: &[u32]) -> u32 {
+    items.iter().fold(start, |sum, x| {
+        ((u64::from(sum) * 65_599 + u64::from(*x)) % MODULUS) as u32
+    })
+}
+
 impl Lent {
     fn blank() -> Lent {
         Lent {
@@ -32,15 +39,10 @@ impl Lent {
         }
     }
 
-    pub(crate) fn checksum(&self) -> u32 {
-        self.text
-            .iter()
-            .chain(&self.payload)
-            .chain(&self.first)
-            .chain(&self.second)
-            .fold(1, |sum: u32, x| {
-                ((u64::from(sum) * 65_599 + u64::from(*x)) % MODULUS) as u32
-            })
+    // Slice by slice: over a `chain` of the four it takes three times as long.
+    fn checksum(&self) -> u32 {
+        let lent: [&[u32]; 4] = [&self.text, &self.payload, &self.first, &self.second];
+        lent.iter().fold(1, |sum, items| checksum_from(sum, items))
     }
 }
 
@@ -82,26 +84,16 @@ fn call(
         &mut lent.first[..(first_room as usize).min(ITEMS)],
         &mut lent.second[..(second_room as usize).min(ITEMS)],
     );
-    let is_same = before == lent.checksum() && trial.view == view;
-    print_answer(out, answer, view, &lent, is_same)
-}
-
-// `view` is the one that was lent.
-fn print_answer(
-    out: &impl Print,
-    answer: Result<Applied, Refusal>,
-    view: View,
-    lent: &Lent,
-    is_same: bool,
-) -> io::Result<()> {
+    let sum = lent.checksum();
     match answer {
-        Err(refusal) => print_refused(out, refusal, is_same),
+        Err(refusal) => print_refused(out, refusal, before == sum && trial.view == view),
         Ok(applied) => println!(out;
             "{}",
             Done {
                 view,
                 applied,
-                lent
+                lent: &lent,
+                sum
             }
         ),
     }

@@ -23,7 +23,7 @@ mod trial;
 
 use crate::calls::run;
 use crate::trial::Trial;
-use lines::{is_passed_over, read_text};
+use lines::{PassingOver, is_passed_over, read_text};
 use std::io;
 
 fn try_line(out: &impl Print, label: &[u8], line: &[u8]) -> io::Result<()> {
@@ -48,9 +48,10 @@ fn try_lines(out: &impl Print, text: &[u8]) -> io::Result<()> {
 }
 
 fn main(rt: HostRuntime) -> io::Result<()> {
+    let out = PassingOver(&rt);
     let mut room = [0; 65_536];
-    match read_text(rt.stdin(), &mut room)? {
-        Some(text) => try_lines(&rt, text),
-        None => println!(rt; "the input is too long"),
+    match read_text(rt.stdin(), &mut room) {
+        Some(text) => try_lines(&out, text),
+        None => println!(out; "the input is too long"),
     }
 }

@@ -61,12 +61,13 @@ impl fmt::Display for Numbers {
     }
 }
 
-// An edit that was made, with the view that was lent.
+// An edit that was made, with the view that was lent, all else that was, and the checksum of that.
 #[derive(Clone, Copy)]
 pub(crate) struct Done<'a> {
     pub(crate) view: View,
     pub(crate) applied: Applied,
     pub(crate) lent: &'a Lent,
+    pub(crate) sum: u32,
 }
 
 impl Done<'_> {
@@ -110,7 +111,7 @@ impl fmt::Display for Done<'_> {
         )?;
         self.write_short(f)?;
         let numbers = Numbers(inverse);
-        let sum = self.lent.checksum();
+        let sum = self.sum;
         write!(f, " numbers {numbers} sum {sum}")
     }
 }

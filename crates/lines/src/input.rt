@@ -1,19 +1,19 @@
-ghost use Rattle.std.specs.Prelude.{◌<◌, length, IfOk, IfSome};
+ghost use Rattle.std.specs.Prelude.{◌<◌, ◌≤◌, length, IfSome};
 
-use std::io;
 use std::io::Read;
 
-// What the reader has, to its end, or none where it would leave no room.
-pub fn read_text<R: Read + Drop>(from: R, room: &mut [u8]) -> io::Result<Option<&[u8]>>
-    ensures { IfOk result (λ text. IfSome text (λ t. length t.now < length room.old)) }
+// What the reader has, up to its end or a read that fails, or none where it would leave no room.
+pub fn read_text<R: Read + Drop>(mut from: R, room: &mut [u8]) -> Option<&[u8]>
+    ensures { IfSome result (λ text. length text.now < length room.old) }
 {
-    let size = room.len() as u64;
-    let length = io::copy(&mut from.take(size), &mut &mut *room)?;
-    if length < size {
-        Ok(Some(&room[..length as usize]))
-    } else {
-        Ok(None)
+    let mut length = 0;
+    while length < room.len() {
+        match from.read(&mut room[length..]) {
+            Ok(0) | Err(_) => return Some(&room[..length]),
+            Ok(count) => length += count,
+        }
     }
+    None
 }
 
 // Whether a line is empty or a comment.

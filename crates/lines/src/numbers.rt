@@ -1,6 +1,8 @@
-ghost use Rattle.std.specs.Prelude.{◌≤◌, length, IfSome};
+ghost use Rattle.std.specs.Prelude.{◌≤◌, ◌<◌, length, IfSome};
 
-fn digit(x: u8) -> Option<u32> {
+fn digit(x: u8) -> Option<u32>
+    ensures { IfSome result (λ value. value < 16) }
+{
     match x {
         b'0'..=b'9' => Some(u32::from(x - b'0')),
         b'A'..=b'F' => Some(u32::from(x - b'A') + 10),

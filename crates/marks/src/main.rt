@@ -13,7 +13,7 @@ mod replay;
 
 use crate::case::Case;
 use crate::replay::replay;
-use lines::{is_passed_over, read_numbers, read_text};
+use lines::{PassingOver, is_passed_over, read_numbers, read_text};
 use std::io;
 
 // The most numbers of a line.
@@ -37,9 +37,10 @@ fn replay_lines(out: &impl Print, text: &[u8]) -> io::Result<()> {
 }
 
 fn main(rt: HostRuntime) -> io::Result<()> {
+    let out = PassingOver(&rt);
     let mut room = [0; 65_536];
-    match read_text(rt.stdin(), &mut room)? {
-        Some(text) => replay_lines(&rt, text),
-        None => println!(rt; "the input is too long"),
+    match read_text(rt.stdin(), &mut room) {
+        Some(text) => replay_lines(&out, text),
+        None => println!(out; "the input is too long"),
     }
 }

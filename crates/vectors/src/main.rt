@@ -11,7 +11,9 @@
 mod trial;
 mod vector;
 
-use lines::read_text;
+ghost use Rattle.std.specs.Prelude.{◌≤◌};
+
+use lines::{PassingOver, read_text};
 use std::{fmt, io};
 
 #[derive(Clone, Copy, Default)]
@@ -21,7 +23,9 @@ struct Tally {
 }
 
 impl Tally {
-    fn add(&mut self, passes: bool) {
+    fn add(&mut self, passes: bool)
+        ensures { self.old.passed ≤ self.old.count → self.new.passed ≤ self.new.count }
+    {
         self.passed = self.passed.saturating_add(usize::from(passes));
         self.count = self.count.saturating_add(1);
     }
@@ -67,9 +71,10 @@ fn try_groups(out: &impl Print, text: &[u8]) -> io::Result<()> {
 }
 
 fn main(rt: HostRuntime) -> io::Result<()> {
+    let out = PassingOver(&rt);
     let mut room = [0; 32_768];
-    match read_text(rt.stdin(), &mut room)? {
-        Some(text) => try_groups(&rt, text),
-        None => println!(rt; "the input is too long"),
+    match read_text(rt.stdin(), &mut room) {
+        Some(text) => try_groups(&out, text),
+        None => println!(out; "the input is too long"),
     }
 }

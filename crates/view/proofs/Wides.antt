@@ -1,5 +1,7 @@
 -- Rows as the parts that a cut at each LF gives.
 use Rattle.std.proofs.Common.{◌≡◌, ℕ, Bool, true, false, cond, List, [], ◌∷◌, map, take, length, leb, refl, ap, sym, ◌∙◌}
+use native.Mathlib.Omega.{arith}
+use borrow.Author.Tests.{le-leb}
 use Rattle.std.specs.List.{slice_split, onto_first, list_all}
 use Rattle.std.proofs.lemmas.List.{take-map}
 use Rattle.text.specs.Rows.{Line, line, lines, onto}
@@ -31,3 +33,9 @@ wide_parts c n t =
     ap (λ (l : List (List ℕ)). list_all (λ (s : List ℕ). leb c (length s)) (take n l)) (sym (parts t))
     ∙ ap (list_all (λ (s : List ℕ). leb c (length s))) (take-map (λ (r : Line ℕ). r.body) n (lines is_lf t))
     ∙ all_bodies c (take n (lines is_lf t))
+
+-- no row is shorter than nothing
+pub wide-zero : (rs : List (Line ℕ)) → true ≡ wide 0 rs
+unfolding wide
+wide-zero [] = refl
+wide-zero (r ∷ rs) = wide-zero rs ∙ rw (le-leb 0 (length r.body) (omega arith))

@@ -17,6 +17,9 @@ fn rows_wide(text: &[u32], count: usize, left: Col) -> bool
     ensures { result ≡ wide left.0 (take count (lines is_lf text.now)) }
 {
     let least = left.0 as usize;
+    if least == 0 {
+        return true;
+    }
     text.split(|x| *x == LF)
         .take(count)
         .all(|row| least <= row.len())

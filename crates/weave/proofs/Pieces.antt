@@ -5,9 +5,13 @@ use Prim.Native.Nat.{ℕ, ◌+◌, ◌-◌, ◌≤◌, min, max}
 use native.Mathlib.Omega.{arith}
 use borrow.Rule.Slice.PartMut.{put_mid}
 use lib.ListN.{length, take, drop, replicate, length-append, length-take, length-drop, length-replicate, take-append-drop}
-use lib.Seq.{paste, slice, drop_at, take_all, take-take, drop-drop, take-append-le, take-append-add, take-paste, drop-paste, length-take-le}
+use lib.Seq.{paste, slice, drop_at, take_all, take-take, drop-drop, take-add, take-append-le, take-append-add, take-paste, drop-paste, length-take-le}
 use Rattle.std.proofs.lemmas.Slice.{put_mid-paste}
 use Rattle.promise.proofs.Lists.{drop-take, paste-both}
+
+-- a piece that stays where it is
+pub piece_same : (b : List ℕ) (from to count : ℕ) → from ≡ to → b ≡ paste b to (drop from b) count
+piece_same b from to count e = rw (e, ← take-add to count b) (sym (take-append-drop (to + count) b))
 
 -- a part from a to e, n long, filled with v
 pub part-filled : (b y : List ℕ) (a e n v : ℕ) → a + n ≡ e → e ≤ length b → y ≡ replicate (length (take (e - a) (drop a b))) v → put_mid a (e - a) b y ≡ paste b a (replicate n v) n

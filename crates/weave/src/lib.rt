@@ -15,7 +15,9 @@ fn move_piece(text: &mut [u32], from: usize, to: usize, count: usize)
     requires { (from + count ≤ length text.old) × (to + count ≤ length text.old) }
     ensures { text.new ≡ paste text.old to (drop from text.old) count }
 {
-    text.copy_within(from..from + count, to);
+    if from != to {
+        text.copy_within(from..from + count, to);
+    }
 }
 
 // Puts `value` so many times, and then the payload, over what stands from `at` on.

@@ -10,23 +10,34 @@
 
 mod entry;
 
+ghost use Rattle.std.specs.Prelude.{◌≤◌, IfOk};
+
 use entry::{cut, read_entry};
 use fit::box_fit;
-use lines::read_text;
+use lines::{PassingOver, read_text};
 use std::io;
+use std::ops::Range;
 
 // Whether a character leaves a box of one cell by itself.
 fn is_wide(point: u32) -> bool {
     matches!(box_fit(&[point], 1, 1, 1), Ok(Some(_)))
 }
 
+fn count_wide(points: Range<u32>) -> usize
+    ensures { result ≤ points.end }
+{
+    points.filter(|x| is_wide(*x)).count()
+}
+
 // Prints a line, and answers how many of its code points are wide: none, if it is malformed.
-fn print_line(out: &impl Print, line: &[u8]) -> io::Result<usize> {
+fn print_line(out: &impl Print, line: &[u8]) -> io::Result<usize>
+    ensures { IfOk result (λ wide. wide ≤ 0x110000) }
+{
     let (head, _) = cut(line, b' ');
     out.write_all(head)?;
     match read_entry(head) {
         Some(points) => {
-            let wide = points.filter(|x| is_wide(*x)).count();
+            let wide = count_wide(points);
             println!(out; " {wide}")?;
             Ok(wide)
         }
@@ -48,22 +59,23 @@ fn print_lines(out: &impl Print, text: &[u8]) -> io::Result<()> {
     println!(out; "wide in {count} lines: {wide}")
 }
 
+// The scalar values are the code points before the surrogates and those behind them.
 fn print_scalars(out: &impl Print) -> io::Result<()> {
-    let count = (0..=0x10FFFF).filter_map(char::from_u32).count();
-    let wide = (0..=0x10FFFF)
-        .filter_map(char::from_u32)
-        .filter(|x| is_wide(u32::from(*x)))
-        .count();
+    let low = 0..0xD800;
+    let high = 0xE000..0x110000;
+    let count = low.len() + high.len();
+    let wide = count_wide(low) + count_wide(high);
     println!(out; "wide of {count} scalars: {wide}")
 }
 
 fn main(rt: HostRuntime) -> io::Result<()> {
+    let out = PassingOver(&rt);
     let mut room = [0; 65_536];
-    match read_text(rt.stdin(), &mut room)? {
+    match read_text(rt.stdin(), &mut room) {
         Some(text) => {
-            print_lines(&rt, text)?;
-            print_scalars(&rt)
+            print_lines(&out, text)?;
+            print_scalars(&out)
         }
-        None => println!(rt; "the input is too long"),
+        None => println!(out; "the input is too long"),
     }
 }
