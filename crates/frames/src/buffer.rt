@@ -39,14 +39,22 @@ impl Buffer {
         self.length = end;
     }
 
-    // Ends where no more comes of it: what is pushed is empty, or there is no room.
+    // The bytes once, and then, as long as there is room, what stands there of them copied behind itself: a turn doubles it.
     fn push_times(&mut self, bytes: &[u8], times: usize) {
-        for _ in 0..times {
-            if bytes.is_empty() || self.length == ROOM {
-                return;
-            }
-            self.push(bytes);
+        if bytes.is_empty() {
+            return;
         }
+        let start = self.length;
+        let size = bytes.len().saturating_mul(times).min(ROOM - start);
+        let mut done = bytes.len().min(size);
+        self.bytes[start..start + done].copy_from_slice(&bytes[..done]);
+        // A cursor: each turn moves it by what it copied.
+        while done < size {
+            let more = done.min(size - done);
+            self.bytes.copy_within(start..start + more, start + done);
+            done += more;
+        }
+        self.length = start + size;
     }
 
     // The words of a line, one behind the other.

@@ -39,7 +39,7 @@ impl Lent {
         }
     }
 
-    // Slice by slice: over a `chain` of the four it takes three times as long.
+    // Slice by slice: over a `chain` of the four it takes nearly three times as many instructions.
     fn checksum(&self) -> u32 {
         let lent: [&[u32]; 4] = [&self.text, &self.payload, &self.first, &self.second];
         lent.iter().fold(1, |sum, items| checksum_from(sum, items))

@@ -7,6 +7,7 @@ pub fn read_text<R: Read + Drop>(mut from: R, room: &mut [u8]) -> Option<&[u8]>
     ensures { IfSome result (λ text. length text.now < length room.old) }
 {
     let mut length = 0;
+    // A cursor: each turn moves it by what it read.
     while length < room.len() {
         match from.read(&mut room[length..]) {
             Ok(0) | Err(_) => return Some(&room[..length]),
