@@ -4,7 +4,9 @@ slow-reader: its output is a pipe that does not block, and is read in small part
 late-writer: its input is a pipe that does not block, and nothing comes for a while, at first and behind its second line.
 open-input: its input is a pipe that stays open behind the script; the program has to end by itself.
 lost-line: its input is a terminal's line that fails once the script has come.
+tight-pipe: its output is a pipe that does not block, and has room for 12 bytes; a write of more than is left fails, and leaves the room as it is.
 """
+import fcntl
 import os
 import pty
 import subprocess
@@ -14,6 +16,8 @@ import time
 import tty
 
 PAUSE = 0.3
+F_SETPIPE_SZ = 1031  # of Linux; a name of Python's from 3.10 on
+ROOM = 12  # bytes
 LIMIT = 120  # seconds; a program that takes longer is killed, and its status tells
 
 
@@ -89,9 +93,23 @@ def lost_line(script, program):
     return running.wait()
 
 
+def tight_pipe(script, program):
+    read, write = os.pipe()
+    filled = fcntl.fcntl(write, F_SETPIPE_SZ, 4_096) - ROOM
+    os.write(write, b"." * filled)
+    os.set_blocking(write, False)
+    with open(script, "rb") as source:
+        running = start(program, stdin=source, stdout=write)
+    os.close(write)
+    status = running.wait()
+    with open(read, "rb") as printed:
+        sys.stdout.buffer.write(printed.read()[filled:])
+    return status
+
+
 def main():
     how, script, program = sys.argv[1], sys.argv[2], sys.argv[3:]
-    ways = {"slow-reader": slow_reader, "late-writer": late_writer, "open-input": open_input, "lost-line": lost_line}
+    ways = {"slow-reader": slow_reader, "late-writer": late_writer, "open-input": open_input, "lost-line": lost_line, "tight-pipe": tight_pipe}
     status = ways[how](script, program)
     sys.stdout.flush()
     sys.exit(status)

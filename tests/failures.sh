@@ -1,6 +1,6 @@
 #!/usr/bin/env bash
 # Runs scriptrun where reads or writes fail, or take a part, or are not possible yet: what it prints, and its one line on standard error or none, are
-# compared byte for byte. Its last line says how many passed.
+# compared byte for byte; and the programs that compare, which pass over what fails. Their exit status has to be 0. Its last line says how many passed.
 set -euo pipefail
 unset POSIXLY_CORRECT # the file size limit below is in units of 1,024 bytes
 cd "$(dirname "${BASH_SOURCE[0]}")/.."
@@ -83,5 +83,37 @@ printf '0161\n10000000000000000062\n' > "$dir/some"
 printf '00110000000000000000000000000000000001\n' > "$dir/front"
 python3 tests/failures.py lost-line "$dir/some" "${run[@]}" > "$dir/out" 2> "$dir/err"
 expect "an input that fails behind its second line" "$dir/front" "scriptrun: standard input: Input/output error"
+
+# ---- the programs that compare: a read that fails ends the input, and a write that fails is passed over
+
+for program in vectors widths limits agrees marks frames; do
+    run=(timeout 120 "${emulated[@]}" "crates/$program/out/$program")
+
+    "${run[@]}" < /dev/null > "$dir/front"
+    "${run[@]}" < "$dir" > "$dir/out" 2> "$dir/err"
+    expect "$program: a directory" "$dir/front"
+
+    "${run[@]}" <&- > "$dir/out" 2> "$dir/err"
+    expect "$program: input closed" "$dir/front"
+
+    head -c 2000 "crates/$program/stdin" > "$dir/some"
+    "${run[@]}" < "$dir/some" > "$dir/front"
+    python3 tests/failures.py lost-line "$dir/some" "${run[@]}" > "$dir/out" 2> "$dir/err"
+    expect "$program: an input that fails behind 2,000 bytes" "$dir/front"
+
+    : > "$dir/out"
+    "${run[@]}" < "crates/$program/stdin" > /dev/full 2> "$dir/err"
+    expect "$program: a full device" "$dir/nothing"
+
+    "${run[@]}" < "crates/$program/stdin" >&- 2> "$dir/err"
+    expect "$program: output closed" "$dir/nothing"
+done
+
+# the title is too long for the room and so is the total, and what stands between them is not
+printf ': a title of many letters\n' > "$dir/some"
+echo ': 0 of 0' > "$dir/front"
+run=(timeout 120 "${emulated[@]}" crates/vectors/out/vectors)
+python3 tests/failures.py tight-pipe "$dir/some" "${run[@]}" > "$dir/out" 2> "$dir/err"
+expect "vectors: a write that fails before one that does not" "$dir/front"
 
 echo "$passed passed, 0 failed"

@@ -32,13 +32,6 @@ impl Buffer {
         self.length = 0;
     }
 
-    fn push(&mut self, bytes: &[u8]) {
-        let count = bytes.len().min(ROOM - self.length);
-        let end = self.length + count;
-        self.bytes[self.length..end].copy_from_slice(&bytes[..count]);
-        self.length = end;
-    }
-
     // The bytes once, and then, as long as there is room, what stands there of them copied behind itself: a turn doubles it.
     fn push_times(&mut self, bytes: &[u8], times: usize) {
         if bytes.is_empty() {
@@ -61,7 +54,7 @@ impl Buffer {
     pub(crate) fn push_words(&mut self, line: &[u8]) {
         for word in line.split(|x| *x == b' ') {
             match word_of(word) {
-                Word::Octet(octet) => self.push(&[octet]),
+                Word::Octet(octet) => self.push_times(&[octet], 1),
                 Word::Repeated(digits, times) => self.push_times(digits, times),
             }
         }
@@ -70,6 +63,6 @@ impl Buffer {
     // The same, and LF.
     pub(crate) fn push_line(&mut self, line: &[u8]) {
         self.push_words(line);
-        self.push(b"\n");
+        self.push_times(b"\n", 1);
     }
 }
